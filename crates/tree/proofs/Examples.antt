@@ -1,0 +1,122 @@
+-- The worked examples that document 01 marks P, in one table: what the definitions give, beside what it says; and one
+-- proof over the table. Assumes nothing.
+use mathlib.Core.Path.{_≡_, refl}
+use mathlib.Core.List.{List, [], _∷_, _++_, map}
+use mathlib.Core.Option.{Option, none, some}
+use mathlib.Core.Bool.{Bool, true, false}
+use Prim.Native.Nat.{ℕ}
+use lib.ListN.{length}
+use Rattle.tree.specs.Key.{Key, order, strip, common, part, push, keyMax, pick}
+use Rattle.tree.specs.Map.{Pairs}
+use Rattle.tree.specs.Tree.{Tree, empty, room, pairsF, pairsT, labelled, own, nodesF, nodesT}
+use Rattle.tree.specs.Search.{looksF, looksT, getIn, getT, met, longestIn, longestT, sharedIn, sharedT}
+use Rattle.tree.specs.Insert.{chain, leaf, beside, insertF, insertT}
+use Rattle.tree.specs.Remove.{settle, eraseF, eraseT, ifStored, removeT}
+use Rattle.tree.specs.Split.{detachF, leaveF, with, splitT}
+use Rattle.tree.specs.Image.{flagsW, flagsF, flags, imageF, imageT, numbersW, numbersF, numbersT, levelF, levelT}
+use Rattle.tree.specs.Told.{Told, done, refusal, refusalAt}
+use Rattle.tree.specs.Reader.{judge, below, numberOf, numbersPast, overKids, readNode, overRest, readKids, readT}
+use Rattle.tree.specs.Calls.{Outcome, refuses, leaves, SplitOutcome, refusesBoth, leavesBoth, fits, numberTold, longestTold, insertCall, longestCall, sharedCall, removeTold, removeCall, splitTold, splitCall, both, writeCall, readTold, readCall}
+
+-- What an example shows: what is told; an image with its numbers; the pairs of a tree and its number of nodes
+pub data Shown : Type 0 where
+  told : Told → Shown
+  bytes : (image numbers : List ℕ) → Shown
+  holds : Pairs → (nodes : ℕ) → Shown
+
+abbrev written : Tree → Shown
+written t = bytes (imageT t) (numbersT t)
+
+abbrev tree : Tree → Shown
+tree t = holds (pairsT t) (nodesT t)
+
+-- what a call tells, and the tree that it leaves
+abbrev tells : Outcome → Shown
+tells (refuses x) = told x
+tells (leaves x t) = told x
+
+abbrev after : Outcome → Shown
+after (refuses x) = told x
+after (leaves x t) = tree t
+
+abbrev image : Outcome → Shown
+image (refuses x) = told x
+image (leaves x t) = written t
+
+abbrev second : SplitOutcome → Shown
+second (refusesBoth x) = told x
+second (leavesBoth x d u) = tree d
+
+abbrev first : SplitOutcome → Shown
+first (refusesBoth x) = told x
+first (leavesBoth x d u) = tree u
+
+-- bytes of keys
+abbrev a : ℕ
+a = 0x61
+
+abbrev b : ℕ
+b = 0x62
+
+abbrev c : ℕ
+c = 0x63
+
+abbrev d : ℕ
+d = 0x64
+
+unfoldable pub ab-ac : Tree
+ab-ac = insertT (insertT empty (a ∷ b ∷ []) 1) (a ∷ c ∷ []) 2
+
+unfoldable pub ab : Tree
+ab = insertT empty (a ∷ b ∷ []) 1
+
+unfoldable pub a-abc : Tree
+a-abc = insertT (insertT empty (a ∷ []) 1) (a ∷ b ∷ c ∷ []) 2
+
+unfoldable pub ab-ac-b : Tree
+ab-ac-b = insertT ab-ac (b ∷ []) 3
+
+unfoldable pub abc : Tree
+abc = insertT empty (a ∷ b ∷ c ∷ []) 1
+
+pub record Example : Type 0 where
+  pub given : Shown
+  pub due : Shown
+
+abbrev nineteen : List ℕ
+nineteen = 0x0C ∷ 0 ∷ 0 ∷ 0 ∷ 0x0C ∷ 1 ∷ 0 ∷ 1 ∷ 0x61 ∷ 0x33 ∷ 1 ∷ 0 ∷ 2 ∷ 0x62 ∷ 3 ∷ 1 ∷ 0 ∷ 2 ∷ 0x63 ∷ []
+
+unfoldable pub table : List Example
+table =
+    -- the empty tree's image; no bytes give 6
+    record { given = written empty; due = bytes (0 ∷ 0 ∷ 0 ∷ 0 ∷ []) [] }
+    ∷ record { given = tells (readCall (some 1) [] []); due = told (refusalAt 6 0) }
+    -- the 19 bytes, written and read
+    ∷ record { given = written ab-ac; due = bytes nineteen (1 ∷ 2 ∷ []) }
+    ∷ record { given = after (readCall (some 4) nineteen (1 ∷ 2 ∷ [])); due = tree ab-ac }
+    -- after removing ab
+    ∷ record { given = image (removeCall (some ab-ac) (a ∷ b ∷ [])); due = bytes (0x0C ∷ 0 ∷ 0 ∷ 0 ∷ 3 ∷ 2 ∷ 0 ∷ 1 ∷ 0x61 ∷ 0x63 ∷ []) (2 ∷ []) }
+    -- one slot takes the empty key, and no other
+    ∷ record { given = after (insertCall (some empty) 1 [] 7); due = holds (([], 7) ∷ []) 1 }
+    ∷ record { given = tells (insertCall (some empty) 1 (a ∷ []) 7); due = told (refusal 4) }
+    -- three slots with ab take a, and not ac
+    ∷ record { given = after (insertCall (some ab) 3 (a ∷ []) 7); due = holds ((a ∷ [], 7) ∷ (a ∷ b ∷ [], 1) ∷ []) 3 }
+    ∷ record { given = tells (insertCall (some ab) 3 (a ∷ c ∷ []) 7); due = told (refusal 4) }
+    -- a = 1, abc = 2: the queries abd and b
+    ∷ record { given = told (longestCall (some a-abc) (a ∷ b ∷ d ∷ [])); due = told (done (1 ∷ 1 ∷ [])) }
+    ∷ record { given = told (sharedCall (some a-abc) (a ∷ b ∷ d ∷ [])); due = told (done (2 ∷ [])) }
+    ∷ record { given = told (longestCall (some a-abc) (b ∷ [])); due = told (refusal 3) }
+    ∷ record { given = told (sharedCall (some a-abc) (b ∷ [])); due = told (done (0 ∷ [])) }
+    -- ab, ac, b split by a
+    ∷ record { given = second (splitCall (some ab-ac-b) (some 3) (a ∷ [])); due = holds ((b ∷ [], 1) ∷ (c ∷ [], 2) ∷ []) 3 }
+    ∷ record { given = first (splitCall (some ab-ac-b) (some 3) (a ∷ [])); due = holds ((b ∷ [], 3) ∷ []) 2 }
+    -- and by ab
+    ∷ record { given = second (splitCall (some ab-ac-b) (some 1) (a ∷ b ∷ [])); due = holds (([], 1) ∷ []) 1 }
+    ∷ record { given = first (splitCall (some ab-ac-b) (some 1) (a ∷ b ∷ [])); due = holds ((a ∷ c ∷ [], 2) ∷ (b ∷ [], 3) ∷ []) 3 }
+    -- abc split by a
+    ∷ record { given = second (splitCall (some abc) (some 2) (a ∷ [])); due = holds ((b ∷ c ∷ [], 1) ∷ []) 2 }
+    ∷ []
+
+pub examples : map (λ (e : Example). e .given) table ≡ map (λ (e : Example). e .due) table
+unfolding table ab ab-ac a-abc ab-ac-b abc empty room strip part push keyMax pick pairsF pairsT labelled own nodesF nodesT looksF looksT getIn getT met longestIn longestT sharedIn sharedT chain leaf beside insertF insertT settle eraseF eraseT ifStored removeT detachF leaveF with splitT flagsW flagsF flags imageF imageT numbersW numbersF numbersT judge below numberOf numbersPast overKids readNode overRest readKids readT fits numberTold longestTold insertCall longestCall sharedCall removeTold removeCall splitTold splitCall readTold readCall
+examples = refl

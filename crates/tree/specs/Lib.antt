@@ -1,0 +1,12 @@
+pub mod Key
+pub mod Map
+pub mod Tree
+pub mod Search
+pub mod Insert
+pub mod Remove
+pub mod Split
+pub mod Walk
+pub mod Image
+pub mod Told
+pub mod Reader
+pub mod Calls
