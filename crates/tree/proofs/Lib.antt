@@ -1,1 +1,13 @@
+pub mod Order
+pub mod Parts
+pub mod Find
+pub mod InsertFind
+pub mod Looks
+pub mod Shapes
+pub mod RemoveFind
+pub mod Hits
+pub mod SplitFind
+pub mod InsertWf
+pub mod RemoveWf
+pub mod SplitWf
 pub mod Examples
