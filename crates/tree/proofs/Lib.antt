@@ -1,5 +1,6 @@
 pub mod Order
 pub mod Parts
+pub mod Common
 pub mod Find
 pub mod InsertFind
 pub mod Looks

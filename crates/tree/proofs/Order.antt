@@ -45,6 +45,9 @@ cmp-gt a b h = elim (cmp a b) [ less i e ↦ absurd (omega arith) | even i e ↦
 pub cmp-refl : (a : ℕ) → compare a a ≡ Ordering·eq
 cmp-refl a = elim (cmp a a) [ less i e ↦ absurd (omega arith) | even i e ↦ e | more i e ↦ absurd (omega arith) ]
 
+pub cmp-eq : (a b : ℕ) → a ≡ b → compare a b ≡ Ordering·eq
+cmp-eq a b h = rw h (cmp-refl b)
+
 -- Two keys
 pub order-cons : (x : ℕ) (q : Key) (y : ℕ) (k : Key) → order (x ∷ q) (y ∷ k) ≡ three (compare x y) Ordering·lt (order q k) Ordering·gt
 unfolding order three
