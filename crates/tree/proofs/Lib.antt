@@ -1,6 +1,7 @@
 pub mod Order
 pub mod Parts
 pub mod Common
+pub mod Judge
 pub mod Find
 pub mod InsertFind
 pub mod Looks

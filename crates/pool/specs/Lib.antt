@@ -1,0 +1,4 @@
+pub mod Layout
+pub mod Pool
+pub mod Rule
+pub mod Post
