@@ -27,9 +27,9 @@ up-step ws vs i to k pos top room s =
       len = length-set vs there v ∙ s .len;
       low = λ j h. getD-set-other vs there j v 0 (λ e. omega arith) ∙ s .low j (omega arith);
       mid = λ j h l.
-        by-eq j (i - 1)
-        (λ e. rw e (getD-set-same vs there v 0 (omega (arith, s .len)) ∙ s .low (i - 1) (omega arith)))
-        (λ n. getD-set-other vs there (j + k) v 0 (λ e. n (omega arith)) ∙ s .mid j (omega arith) l);
+          by-eq j (i - 1)
+          (λ e. rw e (getD-set-same vs there v 0 (omega (arith, s .len)) ∙ s .low (i - 1) (omega arith)))
+          (λ n. getD-set-other vs there (j + k) v 0 (λ e. n (omega arith)) ∙ s .mid j (omega arith) l);
       high = λ j h. getD-set-other vs there j v 0 (λ e. omega arith) ∙ s .high j h;
     }
 
@@ -49,11 +49,11 @@ down-step ws vs from i k low order room s =
       len = length-set vs there v ∙ s .len;
       low = λ j h. getD-set-other vs there j v 0 (λ e. omega arith) ∙ s .low j h;
       mid = λ j h l.
-        by-eq j there
-        (λ e.
+          by-eq j there
+          (λ e.
           let q : i ≡ j + k = omega arith in
           rw (← q, e) (getD-set-same vs there v 0 (omega (arith, s .len)) ∙ s .high i (omega arith)))
-        (λ n. getD-set-other vs there j v 0 n ∙ s .mid j h (by-lt (j + k) i (λ m. m) (λ m. absurd (n (omega arith)))));
+          (λ n. getD-set-other vs there j v 0 n ∙ s .mid j h (by-lt (j + k) i (λ m. m) (λ m. absurd (n (omega arith)))));
       high = λ j h. getD-set-other vs there j v 0 (λ e. omega arith) ∙ s .high j (omega arith);
     }
 
@@ -74,9 +74,9 @@ fill-step vs from i h s =
     record {
       len = length-set vs i v ∙ s .len;
       below = λ j l.
-        by-eq j i
-        (λ e. rw e (getD-set-same vs i v 0 h))
-        (λ n. getD-set-other vs i j v 0 n ∙ s .below j (by-lt j i (λ m. m) (λ m. absurd (n (omega arith)))));
+          by-eq j i
+          (λ e. rw e (getD-set-same vs i v 0 h))
+          (λ n. getD-set-other vs i j v 0 n ∙ s .below j (by-lt j i (λ m. m) (λ m. absurd (n (omega arith)))));
     }
 
 pub fill-done : (vs from : List ℕ) (i : ℕ) → length vs ≤ i → Filled vs from i → vs ≡ from

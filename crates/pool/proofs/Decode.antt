@@ -148,8 +148,8 @@ sized ws bs =
     elim (judged (lengthRules ws bs (slotsIn bs))) [
       | breaks x j h ↦
           wrong (rw (j, slotsOf)) (λ slots l.
-            let e : slots ≡ slotsIn bs = omega (arith, l .labels) in
-            h (of-lengths ws bs (slotsIn bs) (rw e at l)))
+          let e : slots ≡ slotsIn bs = omega (arith, l .labels) in
+          h (of-lengths ws bs (slotsIn bs) (rw e at l)))
       | passes h j ↦ right (slotsIn bs) (rw (j, slotsOf)) (lengths-of ws bs (slotsIn bs) h)
     ]
 

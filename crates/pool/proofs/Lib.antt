@@ -1,2 +1,3 @@
 pub mod Decode
 pub mod Ruled
+pub mod Stands

@@ -85,13 +85,13 @@ module _ (ws bs : List ℕ) (n : ℕ) where
             let x = found-fits fuel (s + lenOf ws c) 0 (c + 1) (c + spanOf ws c) ks (omega (arith, k .inside)) (rw z′ at p) in
             let y = found-fits fuel s (firstOf bs c + 1) (c + spanOf ws c) e rest h (rw z′ at r) in
             let kid : Child ws bs s e least c =
-              record { start = k .start; some = k .some; short = k .short; span = k .span; inside = k .inside; used = k .used; order = k .order } in
+            record { start = k .start; some = k .some; short = k .short; span = k .span; inside = k .inside; used = k .used; order = k .order } in
             record {
               chain = child kid (y .chain);
               each = λ j a b.
-                by-eq j c
-                (λ e₁. subst (λ (u : ℕ). NodeAt ws bs n u) (sym e₁) (node-at s least c e h k (x .chain)))
-                (λ ne. by-lt j (c + spanOf ws c) (λ l. x .each j (by-lt c j (λ g. omega arith) (λ g. absurd (ne (omega arith)))) l) (λ l. y .each j l b));
+                  by-eq j c
+                  (λ e₁. subst (λ (u : ℕ). NodeAt ws bs n u) (sym e₁) (node-at s least c e h k (x .chain)))
+                  (λ ne. by-lt j (c + spanOf ws c) (λ l. x .each j (by-lt c j (λ g. omega arith) (λ g. absurd (ne (omega arith)))) l) (λ l. y .each j l b));
             }
       ]
 
@@ -100,7 +100,7 @@ rule-tree ws bs r =
     let n = nodesOf ws in
     let v = r .each 0 (r .nodes) in
     let root : Root ws (r .slots) =
-      record { nodes = r .nodes; room = r .room; start = r .root-start; len = r .root-len; has = v .has; span = r .root-span } in
+    record { nodes = r .nodes; room = r .room; start = r .root-start; len = r .root-len; has = v .has; span = r .root-span } in
     let ch : Children ws bs 0 n 0 1 = children-at (omega (arith, r .root-start, r .root-len)) (omega (arith, r .root-span)) (v .kids) in
     let x = chain-there ws bs n (r .each) n 0 0 1 n (omega arith) (omega arith) (r .nodes) ch in
     let e : rooted (numAt ws 0) (some (x .forest)) ≡ some (record { num = numAt ws 0; kids = x .forest }) = unfold rooted in refl in
@@ -113,13 +113,13 @@ tree-rule ws bs t e =
     let r = h .root in
     let x = found-fits ws bs n n 0 0 1 n (t .kids) (omega arith) (h .kids) in
     let top : NodeAt ws bs n 0 =
-      record {
-        has = r .has;
-        deep = unfold keyMax in omega (arith, r .start, r .len);
-        span = omega (arith, r .span, r .nodes);
-        inside = omega (arith, r .span);
-        kids = children-at (omega (arith, r .start, r .len)) (omega (arith, r .span)) (x .chain);
-      } in
+    record {
+      has = r .has;
+      deep = unfold keyMax in omega (arith, r .start, r .len);
+      span = omega (arith, r .span, r .nodes);
+      inside = omega (arith, r .span);
+      kids = children-at (omega (arith, r .start, r .len)) (omega (arith, r .span)) (x .chain);
+    } in
     record {
       slots = h .slots;
       lengths = h .lengths;

@@ -1,4 +1,5 @@
 pub mod Layout
+pub mod Records
 pub mod Pool
 pub mod Rule
 pub mod Post

@@ -8,6 +8,11 @@ pub mod Looks
 pub mod Shapes
 pub mod RemoveFind
 pub mod Hits
+pub mod Heads
+pub mod Longest
+pub mod Shared
+pub mod Looked
+pub mod Nodes
 pub mod SplitFind
 pub mod InsertWf
 pub mod RemoveWf

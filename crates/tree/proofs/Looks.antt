@@ -14,7 +14,7 @@ use Rattle.tree.specs.Map.{Num}
 use Rattle.tree.specs.Tree.{Forest, nil, node, Tree, Above, Wf, WellFormed}
 use Rattle.tree.specs.Search.{Look, inPart, whole, looksF, looksT, getIn, getT, lookedT}
 use Rattle.tree.proofs.Order.{Cmp, less, even, more, cmp, cmp-lt, cmp-gt, cmp-refl}
-use Rattle.tree.proofs.Parts.{Parted, alike, inside, beyond, apart, parted, strip-append, strip-short, strip-under, strip-differs}
+use Rattle.tree.proofs.Parts.{Parted, alike, inside, beyond, apart, parted, strip-append, strip-short, strip-fork}
 use Rattle.tree.proofs.Find.{under, look, findF, findT, findF-lt, findF-eq, findF-gt}
 
 module _ (d b : ℕ) (l : Key) (w : Num) (kids rest : Forest) (c : ℕ) (q : Key) where
@@ -94,7 +94,7 @@ get-is-findF (node b l w kids rest) d c q =
                 let k = get-further (d + suc (length l)) (d + suc (length q)) w (looksF (d + suc (length l)) kids y r) (omega arith) in
                 rw (looks-labelEnds d b l w kids rest c q y r h s, k, m, g) (get-is-findF kids (d + suc (length l)) y r)
             | apart p y k₁ x l₁ i j ne s ↦
-                rw (looks-fork d b l w kids rest c q p y k₁ x l₁ h s, find-nothing b l w kids rest c q h (rw (i, j, strip-under p (x ∷ l₁) (y ∷ k₁)) (strip-differs x l₁ y k₁ ne)), get-past, get-nil)
+                rw (looks-fork d b l w kids rest c q p y k₁ x l₁ h s, find-nothing b l w kids rest c q h (rw (i, j) (strip-fork p x l₁ y k₁ ne)), get-past, get-nil)
           ]
       | more h e ↦ rw (looks-gt d b l w kids rest c q h, findF-gt b l w kids rest c q h, get-past) (get-is-findF rest d c q)
     ]

@@ -83,6 +83,10 @@ unfolding strip
 strip-under [] l q = refl
 strip-under (x ∷ p) l q = rw (cmp-refl x, strip) (strip-under p l q)
 
+-- a key that forks from its prefix
+pub strip-fork : (p : Key) (x : ℕ) (l : Key) (y : ℕ) (q : Key) → ¬ (y ≡ x) → strip (p ++ x ∷ l) (p ++ y ∷ q) ≡ none
+strip-fork p x l y q ne = strip-under p (x ∷ l) (y ∷ q) ∙ strip-differs x l y q ne
+
 -- `strip` by its answer
 pub data Stripped (p q : Key) : Type 0 where
   starts : (r : Key) → q ≡ p ++ r → strip p q ≡ some r → Stripped p q

@@ -12,10 +12,10 @@ pub const KEY_MAX: usize = 4096;
 pub const SLOTS_MAX: usize = 16384;
 
 // The place of a node in a pool.
-pub struct Slot(pub u32);
+pub struct Slot(pub usize);
 
 // How far a node is below the root, which is at level 0.
-pub struct Level(pub u32);
+pub struct Level(pub usize);
 
 // A stored number: any 32-bit value.
 pub struct RuleNo(pub u32);
