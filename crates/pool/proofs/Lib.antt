@@ -1,3 +1,4 @@
 pub mod Decode
 pub mod Ruled
 pub mod Stands
+pub mod Held

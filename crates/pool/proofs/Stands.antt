@@ -29,6 +29,10 @@ pub record Holds (ws bs : List ℕ) (t : Tree) : Type 0 where
   pub kids : Stands ws bs 0 (t .kids) 1
   pub wf : WellFormed t
 
+pub nodes-are : (t : Tree) → nodesT t ≡ suc (nodesF (t .kids))
+unfolding nodesT
+nodes-are t = refl
+
 pub stands-at : (ws bs : List ℕ) (s : ℕ) (f : Forest) {c d : ℕ} → c ≡ d → Stands ws bs s f c → Stands ws bs s f d
 stands-at ws bs s f e h = subst (λ (x : ℕ). Stands ws bs s f x) e h
 

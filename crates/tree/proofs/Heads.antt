@@ -9,6 +9,7 @@ use Rattle.tree.specs.Key.{Key}
 use Rattle.tree.specs.Map.{Num, Pairs, AllKeys}
 use Rattle.tree.specs.Tree.{Forest, nil, node, Above, labelled, own, pairsF}
 use Rattle.tree.proofs.Shapes.{Rising, Bearing}
+use Rattle.tree.proofs.MapOps.{all-append}
 
 -- A key has a first byte, and that has a property.
 abbrev pub Begins : (ℕ → Type 0) → Key → Type 0
@@ -23,10 +24,6 @@ Foreign (c ∷ q) x = ¬ (c ≡ x)
 -- Every key of a list has a first byte, and not the query's.
 abbrev pub AllForeign : Key → Pairs → Type 0
 AllForeign q m = AllKeys (Begins (Foreign q)) m
-
-all-append : (P : Key → Type 0) (m n : Pairs) → AllKeys P m → AllKeys P n → AllKeys P (m ++ n)
-all-append P [] n g h = h
-all-append P (x ∷ m) n g h = (g .0, all-append P m n (g .1) h)
 
 pub labelled-foreign : (q : Key) (x : ℕ) (l : Key) (m : Pairs) → Foreign q x → AllForeign q (labelled (x ∷ l) m)
 unfolding labelled

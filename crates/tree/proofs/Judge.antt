@@ -10,6 +10,10 @@ use borrow.Author.Tests.{le-leb, lt-leb, eq-eqb, ne-eqb, leb-true, leb-false, eq
 use Rattle.tree.specs.Told.{Told}
 use Rattle.tree.specs.Reader.{Rule, atMost, equal, Tested, broken, sound, judge}
 
+-- `cc` proves 0 ≡ 1 where two constructors would be equal, and so all else.
+pub never : {A : Type 0} → _≡_ {A = ℕ} 0 1 → A
+never e = absurd (omega arith)
+
 abbrev pub Holds : Rule → Type 0
 Holds (atMost a b x) = a ≤ b
 Holds (equal a b x) = a ≡ b
@@ -62,7 +66,7 @@ all-hold [] e = tt
 all-hold (r ∷ rs) e =
     elim (decide r) [
       | holds h ↦ (h, all-hold rs (sym (judge-on r rs h) ∙ e))
-      | fails h ↦ let z : _≡_ {A = ℕ} 0 1 = cc (judge-off r rs h) in absurd (omega arith)
+      | fails h ↦ never (cc (judge-off r rs h))
     ]
 
 -- `judge` by its answer
@@ -75,4 +79,4 @@ judged rs = go (judge rs) refl
   where
     go : (t : Tested) → judge rs ≡ t → Judged rs
     go sound e = passes (all-hold rs e) e
-    go (broken x) e = breaks x e (λ h. let z : _≡_ {A = ℕ} 0 1 = cc (passed rs h) in omega arith)
+    go (broken x) e = breaks x e (λ h. never (cc (passed rs h)))

@@ -8,6 +8,9 @@ pub mod Looks
 pub mod Shapes
 pub mod RemoveFind
 pub mod Hits
+pub mod MapOps
+pub mod Sift
+pub mod Pairs
 pub mod Heads
 pub mod Longest
 pub mod Shared
@@ -17,4 +20,14 @@ pub mod SplitFind
 pub mod InsertWf
 pub mod RemoveWf
 pub mod SplitWf
+pub mod MapLaws
+pub mod Next
+pub mod ReaderRules
+pub mod ReaderParts
+pub mod ReaderSteps
+pub mod ReaderStands
+pub mod ReaderSound
+pub mod ReaderComplete
+pub mod Loader
+pub mod Levels
 pub mod Examples
