@@ -44,21 +44,10 @@ pub record Kid (ws bs : List ℕ) (s least c e : ℕ) : Type 0 where
 
 module _ (ws bs : List ℕ) (s least c e : ℕ) where
   kid-of : All (childRules ws bs s least c e) → Kid ws bs s least c e
-  kid-of h =
-      record {
-        start = h .0;
-        some = h .1 .0;
-        short = h .1 .1 .0;
-        deep = h .1 .1 .1 .0;
-        has = h .1 .1 .1 .1 .0;
-        span = h .1 .1 .1 .1 .1 .0;
-        inside = h .1 .1 .1 .1 .1 .1 .0;
-        used = h .1 .1 .1 .1 .1 .1 .1 .0;
-        order = h .1 .1 .1 .1 .1 .1 .1 .1 .0;
-      }
+  kid-of h = omega arith
 
   of-kid : Kid ws bs s least c e → All (childRules ws bs s least c e)
-  of-kid k = (k .start, (k .some, (k .short, (k .deep, (k .has, (k .span, (k .inside, (k .used, (k .order, tt)))))))))
+  of-kid k = omega arith
 
 -- the node in slot c, over what stands below and beside it
 abbrev over : (ws bs : List ℕ) (c : ℕ) (kids rest : Option Forest) → Option Forest
@@ -125,10 +114,10 @@ found n ws bs s least c e f q = elim (alike c e) [ even h t ↦ ended h (cc (at-
 
 -- The lengths and the root
 lengths-of : (ws bs : List ℕ) (slots : ℕ) → All (lengthRules ws bs slots) → Lengths ws bs slots
-lengths-of ws bs slots h = record { least = h .0; most = h .1 .0; labels = h .1 .1 .0; words = h .1 .1 .1 .0 }
+lengths-of ws bs slots h = omega arith
 
 of-lengths : (ws bs : List ℕ) (slots : ℕ) → Lengths ws bs slots → All (lengthRules ws bs slots)
-of-lengths ws bs slots h = (h .least, (h .most, (h .labels, (h .words, tt))))
+of-lengths ws bs slots h = omega arith
 
 -- a pool of `slots` slots by its lengths
 pub slots-of : (ws bs : List ℕ) (slots : ℕ) → Lengths ws bs slots → slotsOf ws bs ≡ some slots
@@ -153,6 +142,16 @@ sized ws bs =
       | passes h j ↦ right (slotsIn bs) (rw (j, slotsOf)) (lengths-of ws bs (slotsIn bs) h)
     ]
 
+pub lengths-right : (ws bs : List ℕ) (slots : ℕ) → slotsOf ws bs ≡ some slots → Lengths ws bs slots
+lengths-right ws bs slots e =
+    elim (sized ws bs) [
+      | wrong q i ↦ absurd (none-some slots (sym q ∙ e))
+      | right s q l ↦ let i : s ≡ slots = cc in rw i at l
+    ]
+
+pub no-slots : (ws bs : List ℕ) → ((slots : ℕ) → Lengths ws bs slots → ⊥) → slotsOf ws bs ≡ none
+no-slots ws bs h = elim (sized ws bs) [ wrong e i ↦ e | right slots e l ↦ absurd (h slots l) ]
+
 pub record Root (ws : List ℕ) (slots : ℕ) : Type 0 where
   pub nodes : 1 ≤ nodesOf ws
   pub room : nodesOf ws ≤ slots
@@ -162,11 +161,10 @@ pub record Root (ws : List ℕ) (slots : ℕ) : Type 0 where
   pub span : spanOf ws 0 ≡ nodesOf ws
 
 root-of : (ws : List ℕ) (slots : ℕ) → All (rootRules ws slots) → Root ws slots
-root-of ws slots h =
-    record { nodes = h .0; room = h .1 .0; start = h .1 .1 .0; len = h .1 .1 .1 .0; has = h .1 .1 .1 .1 .0; span = h .1 .1 .1 .1 .1 .0 }
+root-of ws slots h = omega arith
 
 of-root : (ws : List ℕ) (slots : ℕ) → Root ws slots → All (rootRules ws slots)
-of-root ws slots r = (r .nodes, (r .room, (r .start, (r .len, (r .has, (r .span, tt))))))
+of-root ws slots r = omega arith
 
 module _ (ws bs : List ℕ) where
   pub wrong-lengths : slotsOf ws bs ≡ none → poolTree ws bs ≡ none

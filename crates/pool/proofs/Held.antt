@@ -237,7 +237,7 @@ stands-found (node b l w kids rest) (suc n) ws bs s least c h st wf lo =
         ∙ rw (ks, rs, i .label, i .num, first-is ws bs c b l (i .label)) (unfold joined in refl)
 
 -- The whole pool
-root-is : (ws bs : List ℕ) (slots n : ℕ) → Root ws slots → nodesOf ws ≡ suc n → recAt ws bs 0 ≡ rootRec (numAt ws 0) n
+pub root-is : (ws bs : List ℕ) (slots n : ℕ) → Root ws slots → nodesOf ws ≡ suc n → recAt ws bs 0 ≡ rootRec (numAt ws 0) n
 unfolding recAt
 root-is ws bs slots n r e =
     let q : spanOf ws 0 ≡ suc n = r .span ∙ e in

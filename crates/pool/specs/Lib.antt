@@ -3,3 +3,4 @@ pub mod Records
 pub mod Pool
 pub mod Rule
 pub mod Post
+pub mod Fields

@@ -1,2 +1,282 @@
-// A pool of slots in two lent slices: its test, and the calls that need no search.
+// A pool of slots in two lent slices: its fields, the full test, and the calls that need no search. docs/POOL.md has the
+// layout and the rule. Only this crate knows where a field stands.
 ghost use mathlib.Core.Path.{_≡_};
+ghost use Prim.Native.Nat.{ℕ, _+_, _*_, _≤_, _<_};
+ghost use lib.ListN.{length};
+ghost use Rattle.tree.specs.Told.{emptiedTold, countedTold};
+ghost use Rattle.tree.specs.Calls.{makeCall, clearCall, countsCall};
+ghost use Rattle.pool.specs.Layout.{nodesOf, startOf, lenOf, hasOf, numberOf, spanOf, firstOf};
+ghost use Rattle.pool.specs.Pool.{slotsOf, poolTree};
+ghost use Rattle.pool.specs.Rule.{Says, Within, Child, Children, NodeAt, Lengths, PoolRule};
+ghost use Rattle.pool.specs.Post.{Meets};
+ghost use Rattle.pool.specs.Fields.{sizedOf, hasSum, emptied};
+use tree::Counted;
+use tree::Emptied;
+use tree::RuleNo;
+use tree::Slot;
+
+// How many slots two slices have, if their lengths are those of a pool.
+pub enum Sized {
+    Slots(usize),
+    Wrong,
+}
+
+// A word as a place or a length.
+fn wide(x: u32) -> usize
+    ensures { λ r. ⌜ (r ≡ x) × (r < 4294967296) ⌝ }
+{
+    x as usize
+}
+
+// How many slots are in use.
+pub fn nodes_in(words: &[u32]) -> usize
+    requires { ⌜ 1 ≤ length (now words) ⌝ }
+    ensures { λ r. ⌜ (r ≡ nodesOf (now (words .entry))) × (r < 4294967296) ⌝ }
+{
+    wide(words[0])
+}
+
+// Bytes of the path above the slot's label.
+pub fn start_at(words: &[u32], at: Slot) -> usize
+    requires { ⌜ 6 * at .0 + 14 ≤ length (now words) ⌝ }
+    ensures { λ r. ⌜ (r ≡ startOf (now (words .entry)) (at .0)) × (r < 4294967296) ⌝ }
+{
+    let i = at.0;
+    wide(words[6 * i + 8])
+}
+
+// The length of the slot's label.
+pub fn len_at(words: &[u32], at: Slot) -> usize
+    requires { ⌜ 6 * at .0 + 14 ≤ length (now words) ⌝ }
+    ensures { λ r. ⌜ (r ≡ lenOf (now (words .entry)) (at .0)) × (r < 4294967296) ⌝ }
+{
+    let i = at.0;
+    wide(words[6 * i + 9])
+}
+
+// 1 if the slot has a number, else 0.
+pub fn has_at(words: &[u32], at: Slot) -> usize
+    requires { ⌜ 6 * at .0 + 14 ≤ length (now words) ⌝ }
+    ensures { λ r. ⌜ (r ≡ hasOf (now (words .entry)) (at .0)) × (r < 4294967296) ⌝ }
+{
+    let i = at.0;
+    wide(words[6 * i + 10])
+}
+
+// The slot's number, if it has one.
+pub fn number_at(words: &[u32], at: Slot) -> RuleNo
+    requires { ⌜ 6 * at .0 + 14 ≤ length (now words) ⌝ }
+    ensures { λ r. ⌜ r .0 ≡ numberOf (now (words .entry)) (at .0) ⌝ }
+{
+    let i = at.0;
+    RuleNo(words[6 * i + 11])
+}
+
+// Nodes of the slot's subtree, itself included.
+pub fn span_at(words: &[u32], at: Slot) -> usize
+    requires { ⌜ 6 * at .0 + 14 ≤ length (now words) ⌝ }
+    ensures { λ r. ⌜ (r ≡ spanOf (now (words .entry)) (at .0)) × (r < 4294967296) ⌝ }
+{
+    let i = at.0;
+    wide(words[6 * i + 12])
+}
+
+// The first byte of the slot's label.
+pub fn first_at(labels: &[u8], at: Slot) -> u8
+    requires { ⌜ 255 * at .0 + 255 ≤ length (now labels) ⌝ }
+    ensures { λ r. ⌜ (r ≡ firstOf (now (labels .entry)) (at .0)) × (r < 256) ⌝ }
+{
+    let i = at.0;
+    labels[255 * i]
+}
+
+// The number of slots by the lengths of the two slices.
+pub fn slots_of(labels: &[u8], words: &[u32]) -> Sized
+    ensures { λ r. ⌜ sizedOf r ≡ slotsOf (now (words .entry)) (now (labels .entry)) ⌝ }
+{
+    let slots = labels.len() / 255;
+    if slots < 1 {
+        return Sized::Wrong;
+    }
+    if slots > 16384 {
+        return Sized::Wrong;
+    }
+    if labels.len() != 255 * slots {
+        return Sized::Wrong;
+    }
+    if words.len() != 6 * slots + 8 {
+        return Sized::Wrong;
+    }
+    Sized::Slots(slots)
+}
+
+// Whether slot c can be the child that comes next.
+fn child_ok(labels: &[u8], words: &[u32], base: usize, end: usize, least: usize, c: usize) -> bool
+    requires { ⌜ Within (now words) (now labels) end × (c < end) ⌝ }
+    ensures { λ r. ⌜ Says r (Child (now (words .entry)) (now (labels .entry)) base end least c) ⌝ }
+{
+    if start_at(words, Slot(c)) != base {
+        return false;
+    }
+    let n = len_at(words, Slot(c));
+    if n < 1 {
+        return false;
+    }
+    if n > 255 {
+        return false;
+    }
+    let s = span_at(words, Slot(c));
+    if s < 1 {
+        return false;
+    }
+    if end - c < s {
+        return false;
+    }
+    if has_at(words, Slot(c)) + s < 2 {
+        return false;
+    }
+    if (first_at(labels, Slot(c)) as usize) < least {
+        return false;
+    }
+    true
+}
+
+// Whether the slots from c on are children that end exactly at end.
+fn children_ok(labels: &[u8], words: &[u32], base: usize, end: usize, from: usize) -> bool
+    requires { ⌜ Within (now words) (now labels) end × (from ≤ end) ⌝ }
+    ensures { λ r. ⌜ Says r (Children (now (words .entry)) (now (labels .entry)) base end 0 from) ⌝ }
+{
+    let mut least: usize = 0;
+    let mut c = from;
+    while c < end {
+        if !child_ok(labels, words, base, end, least, c) {
+            return false;
+        }
+        least = (first_at(labels, Slot(c)) as usize) + 1;
+        c += span_at(words, Slot(c));
+    }
+    true
+}
+
+// Whether slot i of n is right as a node.
+fn node_ok(labels: &[u8], words: &[u32], n: usize, i: usize) -> bool
+    requires { ⌜ Within (now words) (now labels) n × (i < n) ⌝ }
+    ensures { λ r. ⌜ Says r (NodeAt (now (words .entry)) (now (labels .entry)) n i) ⌝ }
+{
+    if has_at(words, Slot(i)) > 1 {
+        return false;
+    }
+    let base = start_at(words, Slot(i)) + len_at(words, Slot(i));
+    if base > 4096 {
+        return false;
+    }
+    let s = span_at(words, Slot(i));
+    if s < 1 {
+        return false;
+    }
+    if n - i < s {
+        return false;
+    }
+    children_ok(labels, words, base, i + s, i + 1)
+}
+
+// Whether the slots in use are a tree's, in a pool whose lengths are right.
+fn tree_ok(labels: &[u8], words: &[u32], slots: usize) -> bool
+    requires { ⌜ Lengths (now words) (now labels) slots ⌝ }
+    ensures { λ r. ⌜ Says r (PoolRule (now (words .entry)) (now (labels .entry))) ⌝ }
+{
+    let n = nodes_in(words);
+    if n < 1 {
+        return false;
+    }
+    if n > slots {
+        return false;
+    }
+    if start_at(words, Slot(0)) != 0 {
+        return false;
+    }
+    if len_at(words, Slot(0)) != 0 {
+        return false;
+    }
+    if span_at(words, Slot(0)) != n {
+        return false;
+    }
+    let mut i = 0;
+    while i < n {
+        if !node_ok(labels, words, n, i) {
+            return false;
+        }
+        i += 1;
+    }
+    true
+}
+
+// The full test of a pool, in time linear in its nodes: each slot is looked at once as a node and once as a child.
+pub fn is_pool(labels: &[u8], words: &[u32]) -> bool
+    ensures { λ r. ⌜ Says r (PoolRule (now (words .entry)) (now (labels .entry))) ⌝ }
+{
+    match slots_of(labels, words) {
+        Sized::Slots(slots) => tree_ok(labels, words, slots),
+        Sized::Wrong => false,
+    }
+}
+
+// The empty tree: the root alone, without a number.
+fn write_empty(words: &mut [u32])
+    requires { ⌜ 14 ≤ length (now words) ⌝ }
+    ensures { λ _. ⌜ now (words .exit) ≡ emptied (now (words .entry)) ⌝ }
+{
+    words[0] = 1;
+    words[8] = 0;
+    words[9] = 0;
+    words[10] = 0;
+    words[11] = 0;
+    words[12] = 1;
+}
+
+// Makes a fresh pool. Only the lengths are tested; old contents don't matter.
+pub fn make(labels: &mut [u8], words: &mut [u32]) -> Emptied
+    ensures { λ r. ⌜ Meets (makeCall (slotsOf (now (words .entry)) (now (labels .entry)))) (emptiedTold r) (now (words .entry)) (now (labels .entry)) (now (words .exit)) (now (labels .exit)) ⌝ }
+{
+    let Sized::Slots(_) = slots_of(labels, words) else {
+        return Emptied::NotPool;
+    };
+    write_empty(words);
+    Emptied::Done
+}
+
+// Leaves the empty tree in a pool.
+pub fn clear(labels: &mut [u8], words: &mut [u32]) -> Emptied
+    ensures { λ r. ⌜ Meets (clearCall (poolTree (now (words .entry)) (now (labels .entry)))) (emptiedTold r) (now (words .entry)) (now (labels .entry)) (now (words .exit)) (now (labels .exit)) ⌝ }
+{
+    if !is_pool(labels, words) {
+        return Emptied::NotPool;
+    }
+    write_empty(words);
+    Emptied::Done
+}
+
+// How many of the first n slots have a number.
+fn keys_in(words: &[u32], n: usize) -> usize
+    requires { ⌜ (6 * n + 8 ≤ length (now words)) × (n ≤ 16384) × ((i : ℕ) → i < n → hasOf (now words) i ≤ 1) ⌝ }
+    ensures { λ r. ⌜ r ≡ hasSum (now (words .entry)) n ⌝ }
+{
+    let mut keys: usize = 0;
+    let mut i: usize = 0;
+    while i < n {
+        keys += has_at(words, Slot(i));
+        i += 1;
+    }
+    keys
+}
+
+// Keys and nodes, the root included.
+pub fn counts(labels: &[u8], words: &[u32]) -> Counted
+    ensures { λ r. ⌜ countedTold r ≡ countsCall (poolTree (now (words .entry)) (now (labels .entry))) ⌝ }
+{
+    if !is_pool(labels, words) {
+        return Counted::NotPool;
+    }
+    let n = nodes_in(words);
+    Counted::Counts(keys_in(words, n), n)
+}
