@@ -30,11 +30,11 @@ pub twin : (a b : Key) → Twin a b
 twin a b = elim (line a b) [ below h ↦ two (before-differs a b h) | level h e ↦ one h | over h e ↦ two (λ i. before-differs b a h (sym i)) ]
 
 -- Updates of a map at one key twice, and at two keys
-upd-twice : (k : Key) (v w : Num) (m : Key → Num) → upd k v (upd k w m) ≡ upd k v m
+pub upd-twice : (k : Key) (v w : Num) (m : Key → Num) → upd k v (upd k w m) ≡ upd k v m
 unfolding upd three
 upd-twice k v w m = fun-ext λ q. elim (line q k) [ below h ↦ rw h | level h e ↦ rw e | over h e ↦ rw e ]
 
-upd-swap : (k : Key) (v : Num) (l : Key) (w : Num) (m : Key → Num) → ¬ (k ≡ l) → upd k v (upd l w m) ≡ upd l w (upd k v m)
+pub upd-swap : (k : Key) (v : Num) (l : Key) (w : Num) (m : Key → Num) → ¬ (k ≡ l) → upd k v (upd l w m) ≡ upd l w (upd k v m)
 upd-swap k v l w m ne = fun-ext λ q.
     elim (twin q k) [
       | one h ↦ cc (upd-at k v (upd l w m), upd-off l w (upd k v m) k ne, upd-at k v m)

@@ -67,12 +67,12 @@ unfolding pairsT findT
 lookup-pairs t h = lookup-own (t .num) (pairsF (t .kids)) (findF (t .kids)) (lookup-pairsF (t .kids) h)
 
 -- All keys of a list, labelled or with a number over them
-all-labelled : (P : Key → Type 0) (l : Key) (m : Pairs) → AllKeys (λ k. P (l ++ k)) m → AllKeys P (labelled l m)
+pub all-labelled : (P : Key → Type 0) (l : Key) (m : Pairs) → AllKeys (λ k. P (l ++ k)) m → AllKeys P (labelled l m)
 unfolding labelled
 all-labelled P l [] h = tt
 all-labelled P l (x ∷ m) h = (h .0, all-labelled P l m (h .1))
 
-all-own : (P : Key → Type 0) (w : Num) (m : Pairs) → P [] → AllKeys P m → AllKeys P (own w m)
+pub all-own : (P : Key → Type 0) (w : Num) (m : Pairs) → P [] → AllKeys P m → AllKeys P (own w m)
 unfolding own
 all-own P none m i h = h
 all-own P (some v) m i h = (i, h)

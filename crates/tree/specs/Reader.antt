@@ -1,6 +1,6 @@
 -- The strict reader: the tests of one record, a node with all below it, a list of siblings, and the verdict on an image.
 -- s is the whole image, `at` an offset into it, ns the numbers not yet read, path the length of the labels above.
-use mathlib.Core.List.{List, [], _∷_}
+use mathlib.Core.List.{List, [], _∷_, _++_}
 use mathlib.Core.Option.{Option, none, some}
 use mathlib.Core.Bool.{Bool, true, false}
 use Prim.Native.Nat.{ℕ, zero, suc, _+_, _*_, _-_, _/_, _%_}
@@ -41,18 +41,24 @@ unfoldable pub below : ℕ → ℕ
 below zero = 0
 below (suc n) = 1
 
+-- The tests of the flag byte f: no unused bit, no unequal pair, no sibling on the root; x is told where one fails.
+abbrev pub flagRules : (f level : ℕ) → Told → List Rule
+flagRules f level x =
+    atMost f 63 x
+    ∷ equal (f % 2) (f / 2 % 2) x
+    ∷ equal (f / 4 % 2) (f / 8 % 2) x
+    ∷ equal (f / 16 % 2) (f / 32 % 2) x
+    ∷ atMost (hasSibling f) (below level) x
+    ∷ []
+
 -- The tests of one record, in document 01's order. A sibling's first byte is at least `least`, one more than its elder's.
 abbrev pub rules : (s ns : List ℕ) (level least path at : ℕ) → List Rule
 rules s ns level least path at =
     let f = getD s at 0 in
     let m = getD s (at + 1) 0 in
     atMost (at + 4) (length s) (refusalAt 6 at)
-    ∷ atMost f 63 (refusalAt 7 at)
-    ∷ equal (f % 2) (f / 2 % 2) (refusalAt 7 at)
-    ∷ equal (f / 4 % 2) (f / 8 % 2) (refusalAt 7 at)
-    ∷ equal (f / 16 % 2) (f / 32 % 2) (refusalAt 7 at)
-    ∷ atMost (hasSibling f) (below level) (refusalAt 7 at)
-    ∷ equal (256 * getD s (at + 2) 0 + getD s (at + 3) 0) level (refusalAt 8 at)
+    ∷ flagRules f level (refusalAt 7 at)
+    ++ equal (256 * getD s (at + 2) 0 + getD s (at + 3) 0) level (refusalAt 8 at)
     ∷ atMost (below level) m (refusalAt 9 at)
     ∷ atMost m (255 * below level) (refusalAt 9 at)
     ∷ atMost (at + 4 + m) (length s) (refusalAt 6 at)

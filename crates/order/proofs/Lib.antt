@@ -1,0 +1,5 @@
+pub mod Compact
+pub mod Unique
+pub mod Trace
+pub mod Rebuild
+pub mod Past

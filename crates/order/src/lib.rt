@@ -1,0 +1,1 @@
+// This crate holds laws only: order leaves no trace.
