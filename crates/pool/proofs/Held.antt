@@ -2,11 +2,11 @@
 use mathlib.Core.Path.{_≡_, refl, sym, ap, _∙_, subst}
 use mathlib.Core.List.{List, [], _∷_}
 use mathlib.Core.Option.{Option, none, some}
-use Prim.Native.Nat.{ℕ, zero, suc, _+_, _*_, _≤_, _<_}
+use Prim.Native.Nat.{ℕ, zero, suc, _+_, _*_, _-_, _≤_, _<_}
 use native.Mathlib.Nat.{add-zero}
 use native.Mathlib.Omega.{arith}
 use lib.ListN.{length, getD, take, drop, length-take, length-drop}
-use lib.Seq.{drop-cons, getD-drop}
+use lib.Seq.{drop-cons, getD-drop, take-take}
 use Rattle.tree.specs.Key.{Key, Bytes, keyMax}
 use Rattle.tree.specs.Map.{Num}
 use Rattle.tree.specs.Tree.{Forest, nil, node, Tree, Above, Used, NodeRule, Wf, WellFormed, room, nodesF, nodesT, keysW}
@@ -285,3 +285,9 @@ holds-tree ws bs t h =
     let x = stands-found (t .kids) (nodesOf ws) ws bs 0 0 1 (omega arith) (h .kids) (h .wf) (least-0 (t .kids)) in
     let x′ : forestAt (nodesOf ws) ws bs 0 0 1 (nodesOf ws) ≡ some (t .kids) = subst (λ (e : ℕ). forestAt (nodesOf ws) ws bs 0 0 1 e ≡ some (t .kids)) m x in
     tree-of ws bs (h .slots) (slots-of ws bs (h .slots) (h .lengths)) r ∙ rw (x′, i .num) (unfold rooted in refl)
+
+-- The label as a part of the buffer
+pub label-part : (ws bs : List ℕ) (c n : ℕ) → n ≡ lenOf ws c → lenOf ws c ≤ 255 → take (255 * c + n - 255 * c) (drop (255 * c) bs) ≡ labelOf ws bs c
+label-part ws bs c n e h =
+    let m : 255 * c + n - 255 * c ≡ lenOf ws c = omega arith in
+    rw m (sym (take-take (lenOf ws c) 255 (drop (255 * c) bs) h))

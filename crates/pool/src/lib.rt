@@ -5,7 +5,7 @@ ghost use Prim.Native.Nat.{ℕ, _+_, _*_, _≤_, _<_};
 ghost use lib.ListN.{length};
 ghost use Rattle.tree.specs.Told.{emptiedTold, countedTold};
 ghost use Rattle.tree.specs.Calls.{makeCall, clearCall, countsCall};
-ghost use Rattle.pool.specs.Layout.{nodesOf, startOf, lenOf, hasOf, numberOf, spanOf, firstOf};
+ghost use Rattle.pool.specs.Layout.{nodesOf, startOf, lenOf, hasOf, numberOf, spanOf, firstOf, labelOf};
 ghost use Rattle.pool.specs.Pool.{slotsOf, poolTree};
 ghost use Rattle.pool.specs.Rule.{Says, Within, Child, Children, NodeAt, Lengths, PoolRule};
 ghost use Rattle.pool.specs.Post.{Meets};
@@ -88,6 +88,16 @@ pub fn first_at(labels: &[u8], at: Slot) -> u8
 {
     let i = at.0;
     labels[255 * i]
+}
+
+// The slot's label.
+pub fn label_at<'a>(labels: &'a [u8], words: &[u32], at: Slot) -> &'a [u8]
+    requires { ⌜ (6 * at .0 + 14 ≤ length (now words)) × (255 * at .0 + 255 ≤ length (now labels)) × (lenOf (now words) (at .0) ≤ 255) ⌝ }
+    ensures { λ r. ⌜ now r ≡ labelOf (now (words .entry)) (now (labels .entry)) (at .0) ⌝ }
+{
+    let from = 255 * at.0;
+    let to = from + len_at(words, at);
+    &labels[from..to]
 }
 
 // The number of slots by the lengths of the two slices.

@@ -20,6 +20,7 @@ pub mod SplitFind
 pub mod InsertWf
 pub mod RemoveWf
 pub mod SplitWf
+pub mod Context
 pub mod MapLaws
 pub mod Next
 pub mod ReaderRules

@@ -50,6 +50,27 @@ parted k l = go (part k l) refl (parts k l)
     go (labelEnds y r) e h = beyond y r (unfold Parts in h) e
     go (fork p y k₁ x l₁) e h = unfold Parts in apart p y k₁ x l₁ (h .0) (h .1) (h .2) e
 
+-- and back: a parting from what it says
+pub part-same : (l : Key) → part l l ≡ same
+unfolding part push
+part-same [] = refl
+part-same (x ∷ l) = rw (cmp-refl x, part, part-same l)
+
+pub part-keyEnds : (k : Key) (x : ℕ) (r : Key) → part k (k ++ x ∷ r) ≡ keyEnds x r
+unfolding part push
+part-keyEnds [] x r = refl
+part-keyEnds (y ∷ k) x r = rw (cmp-refl y, part, part-keyEnds k x r)
+
+pub part-labelEnds : (l : Key) (y : ℕ) (r : Key) → part (l ++ y ∷ r) l ≡ labelEnds y r
+unfolding part push
+part-labelEnds [] y r = refl
+part-labelEnds (x ∷ l) y r = rw (cmp-refl x, part, part-labelEnds l y r)
+
+pub part-fork : (p : Key) (y : ℕ) (k : Key) (x : ℕ) (l : Key) → ¬ (y ≡ x) → part (p ++ y ∷ k) (p ++ x ∷ l) ≡ fork p y k x l
+unfolding part push
+part-fork [] y k x l ne = elim (cmp y x) [ less h e ↦ rw (e, part) | even h e ↦ absurd (ne h) | more h e ↦ rw (e, part) ]
+part-fork (z ∷ p) y k x l ne = rw (cmp-refl z, part, part-fork p y k x l ne)
+
 -- What `strip` says
 pub strip-some : (p q r : Key) → strip p q ≡ some r → q ≡ p ++ r
 unfolding strip

@@ -5,6 +5,7 @@ pub mod Search
 pub mod Insert
 pub mod Remove
 pub mod Split
+pub mod Context
 pub mod Walk
 pub mod Image
 pub mod Told
