@@ -8,13 +8,11 @@ use mathlib.Core.Option.{none, some}
 use Prim.Native.Nat.{ℕ, zero, suc, _+_, _≤_, _<_}
 use native.Mathlib.Omega.{arith}
 use lib.ListN.{length, drop, length-append, length-drop}
-use lib.Dec.{leb}
-use borrow.Author.Tests.{leb-false}
 use Rattle.tree.specs.Key.{Key, pick}
 use Rattle.tree.specs.Map.{Num}
 use Rattle.tree.specs.Tree.{Forest, nil, node, Tree, empty, room, Above, Used}
 use Rattle.tree.specs.Insert.{chain, leaf, beside, insertF, insertT}
-use Rattle.tree.specs.Remove.{settle, eraseF, eraseT, clearT}
+use Rattle.tree.specs.Remove.{joins, settle, eraseF, eraseT, clearT}
 use Rattle.tree.specs.Split.{detachF, leaveF, halves, splitT}
 use Rattle.tree.proofs.Order.{less, even, more, cmp}
 use Rattle.tree.proofs.Parts.{alike, inside, beyond, apart, parted, starts, not, stripped}
@@ -22,7 +20,7 @@ use Rattle.tree.proofs.Shapes.{Rising, Bearing}
 use Rattle.tree.proofs.InsertFind.{insertF-lt, insertF-gt, insertF-same, insertF-keyEnds, insertF-labelEnds, insertF-fork}
 use Rattle.tree.proofs.InsertWf.{Starts, First, new, old, ins-first, ins-above}
 use Rattle.tree.proofs.RemoveFind.{eraseF-lt, eraseF-gt, eraseF-none, eraseF-here, eraseF-there, removed}
-use Rattle.tree.proofs.RemoveWf.{erase-above}
+use Rattle.tree.proofs.RemoveWf.{joins-false, erase-above}
 use Rattle.tree.proofs.SplitFind.{AllO, halved, detachF-lt, detachF-gt, detachF-same, detachF-keyEnds, detachF-labelEnds, detachF-fork, leaveF-lt, leaveF-gt, leaveF-same, leaveF-keyEnds, leaveF-labelEnds, leaveF-fork}
 use Rattle.tree.proofs.SplitWf.{leave-above}
 use Rattle.order.specs.Built.{Short, Built, fresh, inserted, erased, cleared, detached, remaining}
@@ -213,9 +211,9 @@ module _ (s b : ℕ) (l : Key) (w₀ : Num) (kids₀ rest : Forest) (h : Compact
   unfolding settle pick
   settle-compact (some v) kids j = record { deep = h .deep; above = h .above; kept = tt; ckids = j; crest = h .crest }
   settle-compact none nil j = h .crest
-  settle-compact none (node x r w k nil) j = go (leb (length l + suc (length r)) room) refl
+  settle-compact none (node x r w k nil) j = go (joins l r) refl
     where
-      go : (t : Bool) → leb (length l + suc (length r)) room ≡ t → Compact s (pick t (node b (l ++ x ∷ r) w k rest) (node b l none (node x r w k nil) rest))
+      go : (t : Bool) → joins l r ≡ t → Compact s (pick t (node b (l ++ x ∷ r) w k rest) (node b l none (node x r w k nil) rest))
       go true e =
           let n : length (l ++ x ∷ r) ≡ length l + suc (length r) = length-append l (x ∷ r) in
           record {
@@ -225,7 +223,7 @@ module _ (s b : ℕ) (l : Key) (w₀ : Num) (kids₀ rest : Forest) (h : Compact
             ckids = shallow k (s + suc (length l) + suc (length r)) (s + suc (length (l ++ x ∷ r))) (omega arith) (j .ckids);
             crest = h .crest;
           }
-      go false e = absurd (omega (arith, leb-false (length l + suc (length r)) room e, j .deep))
+      go false e = absurd (omega (arith, joins-false l r e, j .deep))
   settle-compact none (node x r w k (node c m u o i)) j = record { deep = h .deep; above = h .above; kept = tt; ckids = j; crest = h .crest }
 
 -- Remove

@@ -10,7 +10,7 @@ use Rattle.tree.specs.Key.{part, push, strip, pick}
 use Rattle.tree.specs.Tree.{Tree, empty, room, labelled, own, pairsF, pairsT}
 use Rattle.tree.specs.Search.{looksF, looksT, getIn, getT}
 use Rattle.tree.specs.Insert.{chain, leaf, beside, insertF, insertT}
-use Rattle.tree.specs.Remove.{settle, eraseF, eraseT, ifStored, removeT}
+use Rattle.tree.specs.Remove.{joins, settle, eraseF, eraseT, ifStored, removeT}
 use Rattle.tree.specs.Image.{flagsW, flagsF, flags, imageF, imageT}
 use Rattle.tree.proofs.Find.{findT}
 use Rattle.tree.proofs.InsertFind.{insertT-sem}
@@ -33,7 +33,7 @@ pub record Past : Type 0 where
   pub other : Shape nearThenFar 268 (10 ∷ 246 ∷ []) (10 ∷ 246 ∷ [])
 
 pub past : Past
-unfolding far near farThenNear nearThenFar labelsF labelsT part push strip pick empty room labelled own pairsF pairsT looksF looksT getIn getT chain leaf beside insertF insertT settle eraseF eraseT ifStored removeT flagsW flagsF flags imageF imageT
+unfolding far near farThenNear nearThenFar labelsF labelsT part push strip pick empty room labelled own pairsF pairsT looksF looksT getIn getT chain leaf beside insertF insertT joins settle eraseF eraseT ifStored removeT flagsW flagsF flags imageF imageT
 past =
     record {
       one = record { pairs = refl; size = refl; lengths = refl; pairs-out = refl; lengths-out = refl };

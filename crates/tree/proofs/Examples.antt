@@ -1,5 +1,5 @@
--- The worked examples that document 01 marks P, in one table: what the definitions give, beside what it says; and one
--- proof over the table. Assumes nothing.
+-- The worked examples that document 01 marks P, in one table, with what get and remove say of the same trees: what the
+-- definitions give, beside what is due; and one proof over the table. Assumes nothing.
 use mathlib.Core.Path.{_≡_, refl}
 use mathlib.Core.List.{List, [], _∷_, _++_, map}
 use mathlib.Core.Option.{Option, none, some}
@@ -11,12 +11,12 @@ use Rattle.tree.specs.Map.{Pairs}
 use Rattle.tree.specs.Tree.{Tree, empty, room, pairsF, pairsT, labelled, own, nodesF, nodesT}
 use Rattle.tree.specs.Search.{looksF, looksT, getIn, getT, met, longestIn, longestT, sharedIn, sharedT}
 use Rattle.tree.specs.Insert.{chain, leaf, beside, insertF, insertT}
-use Rattle.tree.specs.Remove.{settle, eraseF, eraseT, ifStored, removeT}
+use Rattle.tree.specs.Remove.{joins, settle, eraseF, eraseT, ifStored, removeT}
 use Rattle.tree.specs.Split.{detachF, leaveF, with, splitT}
 use Rattle.tree.specs.Image.{flagsW, flagsF, flags, imageF, imageT, numbersW, numbersF, numbersT, levelF, levelT}
 use Rattle.tree.specs.Told.{Told, done, refusal, refusalAt}
 use Rattle.tree.specs.Reader.{judge, below, numberOf, numbersPast, overKids, readNode, overRest, readKids, readT}
-use Rattle.tree.specs.Calls.{Outcome, refuses, leaves, SplitOutcome, refusesBoth, leavesBoth, fits, numberTold, longestTold, insertCall, longestCall, sharedCall, removeTold, removeCall, splitTold, splitCall, both, writeCall, readTold, readCall}
+use Rattle.tree.specs.Calls.{Outcome, refuses, leaves, SplitOutcome, refusesBoth, leavesBoth, fits, numberTold, longestTold, getCall, insertCall, longestCall, sharedCall, removeTold, removeCall, splitTold, splitCall, both, writeCall, readTold, readCall}
 
 -- What an example shows: what is told; an image with its numbers; the pairs of a tree and its number of nodes
 pub data Shown : Type 0 where
@@ -94,8 +94,12 @@ table =
     -- the 19 bytes, written and read
     ∷ record { given = written ab-ac; due = bytes nineteen (1 ∷ 2 ∷ []) }
     ∷ record { given = after (readCall (some 4) nineteen (1 ∷ 2 ∷ [])); due = tree ab-ac }
-    -- after removing ab
+    -- and what get finds in that tree, at the younger of two siblings and nowhere
+    ∷ record { given = told (getCall (some ab-ac) (a ∷ c ∷ [])); due = told (done (2 ∷ [])) }
+    ∷ record { given = told (getCall (some ab-ac) (a ∷ [])); due = told (refusal 3) }
+    -- after removing ab; what is not stored is not removed
     ∷ record { given = image (removeCall (some ab-ac) (a ∷ b ∷ [])); due = bytes (0x0C ∷ 0 ∷ 0 ∷ 0 ∷ 3 ∷ 2 ∷ 0 ∷ 1 ∷ 0x61 ∷ 0x63 ∷ []) (2 ∷ []) }
+    ∷ record { given = tells (removeCall (some ab-ac) (a ∷ [])); due = told (refusal 3) }
     -- one slot takes the empty key, and no other
     ∷ record { given = after (insertCall (some empty) 1 [] 7); due = holds (([], 7) ∷ []) 1 }
     ∷ record { given = tells (insertCall (some empty) 1 (a ∷ []) 7); due = told (refusal 4) }
@@ -118,5 +122,5 @@ table =
     ∷ []
 
 pub examples : map (λ (e : Example). e .given) table ≡ map (λ (e : Example). e .due) table
-unfolding table ab ab-ac a-abc ab-ac-b abc empty room strip part push keyMax pick pairsF pairsT labelled own nodesF nodesT looksF looksT getIn getT met longestIn longestT sharedIn sharedT chain leaf beside insertF insertT settle eraseF eraseT ifStored removeT detachF leaveF with splitT flagsW flagsF flags imageF imageT numbersW numbersF numbersT judge below numberOf numbersPast overKids readNode overRest readKids readT fits numberTold longestTold insertCall longestCall sharedCall removeTold removeCall splitTold splitCall readTold readCall
+unfolding table ab ab-ac a-abc ab-ac-b abc empty room strip part push keyMax pick joins pairsF pairsT labelled own nodesF nodesT looksF looksT getIn getT met longestIn longestT sharedIn sharedT chain leaf beside insertF insertT settle eraseF eraseT ifStored removeT detachF leaveF with splitT flagsW flagsF flags imageF imageT numbersW numbersF numbersT judge below numberOf numbersPast overKids readNode overRest readKids readT fits numberTold longestTold getCall insertCall longestCall sharedCall removeTold removeCall splitTold splitCall readTold readCall
 examples = refl

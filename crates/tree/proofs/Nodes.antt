@@ -6,13 +6,12 @@ use mathlib.Core.Option.{none, some}
 use Prim.Native.Nat.{ℕ, zero, suc, _+_, _-_, _/_, _≤_, _<_, compare, Ordering·lt, Ordering·eq, Ordering·gt}
 use native.Mathlib.Omega.{arith}
 use lib.ListN.{length, drop, length-drop}
-use lib.Dec.{leb}
 use Rattle.tree.specs.Key.{Key, pick, same, keyEnds, labelEnds, fork, part}
 use Rattle.tree.specs.Map.{Num}
 use Rattle.tree.specs.Tree.{Forest, nil, node, Tree, empty, room, nodesF, nodesT}
 use Rattle.tree.specs.Search.{getT}
 use Rattle.tree.specs.Insert.{chain, leaf, beside, insertF, insertT}
-use Rattle.tree.specs.Remove.{settle, eraseF, eraseT, removeT}
+use Rattle.tree.specs.Remove.{joins, settle, eraseF, eraseT, removeT}
 use Rattle.tree.specs.Split.{detachF, leaveF, halves, splitT}
 use Rattle.tree.proofs.Order.{less, even, more, cmp, cmp-lt, cmp-gt, cmp-refl}
 use Rattle.tree.proofs.Parts.{alike, inside, beyond, apart, parted, starts, not, stripped, strip-short, strip-fork}
@@ -151,7 +150,7 @@ settle-nodes : (b : ℕ) (l : Key) (w : Num) (kids rest : Forest) → nodesF (se
 unfolding settle nodesF
 settle-nodes b l (some v) kids rest = omega arith
 settle-nodes b l none nil rest = omega arith
-settle-nodes b l none (node x r w k nil) rest = go (leb (length l + suc (length r)) room)
+settle-nodes b l none (node x r w k nil) rest = go (joins l r)
   where
     go : (t : Bool) → nodesF (pick t (node b (l ++ x ∷ r) w k rest) (node b l none (node x r w k nil) rest)) ≤ suc (suc (nodesF k + 0) + nodesF rest)
     go true = unfold pick in (omega arith)

@@ -6,12 +6,11 @@ use mathlib.Core.Option.{Option, none, some}
 use Prim.Native.Nat.{ℕ, suc, _+_, _≤_, _<_, compare}
 use native.Mathlib.Omega.{arith}
 use lib.ListN.{length}
-use lib.Dec.{leb}
 use Rattle.tree.specs.Key.{Key, pick, strip}
 use Rattle.tree.specs.Map.{Num}
 use Rattle.tree.specs.Tree.{Forest, nil, node, Tree, Above, room}
 use Rattle.tree.specs.Search.{getT}
-use Rattle.tree.specs.Remove.{settle, eraseF, eraseT, ifStored, removeT}
+use Rattle.tree.specs.Remove.{joins, settle, eraseF, eraseT, ifStored, removeT}
 use Rattle.tree.proofs.Order.{Cmp, less, even, more, cmp, cmp-lt, cmp-gt, cmp-refl, three, none-some}
 use Rattle.tree.proofs.Parts.{strip-some}
 use Rattle.tree.proofs.Find.{under, look, findF, findT, at, upd, updF, node-sem, at-append, at-upd, look-node, look-here, look-there, look-nil, at-nowhere, nowhere, above-none, on-rest, on-node, node-same, upd-same}
@@ -33,7 +32,7 @@ pub settle-sem : (b : ℕ) (l : Key) (w : Num) (kids rest : Forest) → Above b 
 unfolding settle
 settle-sem b l (some v) kids rest h = refl
 settle-sem b l none nil rest h = sym (gone b l rest h)
-settle-sem b l none (node x r w k nil) rest h = go (leb (length l + suc (length r)) room)
+settle-sem b l none (node x r w k nil) rest h = go (joins l r)
   where
     go : (t : Bool) → findF (pick t (node b (l ++ x ∷ r) w k rest) (node b l none (node x r w k nil) rest)) ≡ findF (node b l none (node x r w k nil) rest)
     go true = unfold pick in (node-same b l none (node x r w k nil) (l ++ x ∷ r) w k rest (cc (at-append l (x ∷ r) (look w (findF k)), look-node x r w k)))

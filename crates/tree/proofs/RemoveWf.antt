@@ -6,12 +6,11 @@ use mathlib.Core.Option.{Option, none, some}
 use Prim.Native.Nat.{ℕ, zero, suc, _+_, _≤_, _<_}
 use native.Mathlib.Omega.{arith}
 use lib.ListN.{length, length-append}
-use lib.Dec.{leb}
-use borrow.Author.Tests.{leb-true}
+use borrow.Author.Tests.{leb-true, leb-false}
 use Rattle.tree.specs.Key.{Key, pick, strip}
 use Rattle.tree.specs.Map.{Num}
 use Rattle.tree.specs.Tree.{Forest, nil, node, Tree, Above, Used, NodeRule, Wf, WellFormed, room, empty}
-use Rattle.tree.specs.Remove.{settle, eraseF, eraseT, removeT, clearT}
+use Rattle.tree.specs.Remove.{joins, settle, eraseF, eraseT, removeT, clearT}
 use Rattle.tree.proofs.Order.{Cmp, less, even, more, cmp}
 use Rattle.tree.proofs.Parts.{bytes-append}
 use Rattle.tree.proofs.RemoveFind.{eraseF-lt, eraseF-gt, eraseF-none, eraseF-here, eraseF-there, Removed, removed}
@@ -23,8 +22,17 @@ unfolding settle pick
 settle-above c b l (some v) kids rest i h = i
 settle-above c b l none nil rest i h = above-trans c b rest i h
 settle-above c b l none (node x r w k nil) rest i h =
-    elim (leb (length l + suc (length r)) room) as (λ t. Above c (pick t (node b (l ++ x ∷ r) w k rest) (node b l none (node x r w k nil) rest))) [ true ↦ i | false ↦ i ]
+    elim (joins l r) as (λ t. Above c (pick t (node b (l ++ x ∷ r) w k rest) (node b l none (node x r w k nil) rest))) [ true ↦ i | false ↦ i ]
 settle-above c b l none (node x r w k (node d s u j m)) rest i h = i
+
+-- what the test of a merge says
+pub joins-true : (l r : Key) → joins l r ≡ true → length l + suc (length r) ≤ room
+unfolding joins
+joins-true l r e = leb-true (length l + suc (length r)) room e
+
+pub joins-false : (l r : Key) → joins l r ≡ false → room < length l + suc (length r)
+unfolding joins
+joins-false l r e = leb-false (length l + suc (length r)) room e
 
 module _ (s b : ℕ) (l : Key) (w₀ : Num) (kids₀ rest : Forest) (h : Wf s (node b l w₀ kids₀ rest)) where
   -- the node with another number and other children
@@ -50,10 +58,10 @@ module _ (s b : ℕ) (l : Key) (w₀ : Num) (kids₀ rest : Forest) (h : Wf s (n
   unfolding settle pick
   settle-wf (some v) kids j = renew (some v) kids tt j
   settle-wf none nil j = h .wrest
-  settle-wf none (node x r w k nil) j = go (leb (length l + suc (length r)) room) refl
+  settle-wf none (node x r w k nil) j = go (joins l r) refl
     where
-      go : (t : Bool) → leb (length l + suc (length r)) room ≡ t → Wf s (pick t (node b (l ++ x ∷ r) w k rest) (node b l none (node x r w k nil) rest))
-      go true e = merge x r w k nil j (leb-true (length l + suc (length r)) room e)
+      go : (t : Bool) → joins l r ≡ t → Wf s (pick t (node b (l ++ x ∷ r) w k rest) (node b l none (node x r w k nil) rest))
+      go true e = merge x r w k nil j (joins-true l r e)
       go false e = renew none (node x r w k nil) tt j
   settle-wf none (node x r w k (node d t u i m)) j = renew none (node x r w k (node d t u i m)) tt j
 

@@ -1,6 +1,7 @@
 -- Remove, clear: drop and merge on the way back up.
 use mathlib.Core.List.{List, [], _∷_, _++_}
 use mathlib.Core.Option.{Option, none, some}
+use mathlib.Core.Bool.{Bool}
 use Prim.Native.Nat.{ℕ, suc, _+_, compare, Ordering, Ordering·lt, Ordering·eq, Ordering·gt}
 use lib.ListN.{length}
 use lib.Dec.{leb}
@@ -9,6 +10,10 @@ use Rattle.tree.specs.Map.{Num}
 use Rattle.tree.specs.Tree.{Forest, nil, node, Tree, empty, room}
 use Rattle.tree.specs.Search.{getT}
 
+-- The label b ∷ l joins with an only child's label x ∷ r if they are at most 255 bytes together.
+unfoldable pub joins : (l r : Key) → Bool
+joins l r = leb (length l + suc (length r)) room
+
 -- What becomes of a node on the way back up. With neither number nor child it is dropped, and its sibling stands in its
 -- place. Without a number and with an only child that brings the joined label to at most 255 bytes, it takes in that
 -- child. Any other node stays.
@@ -16,7 +21,7 @@ unfoldable pub settle : (b : ℕ) (l : Key) (w : Num) (kids rest : Forest) → F
 settle b l (some v) kids rest = node b l (some v) kids rest
 settle b l none nil rest = rest
 settle b l none (node x r w k nil) rest =
-    pick (leb (length l + suc (length r)) room) (node b (l ++ x ∷ r) w k rest) (node b l none (node x r w k nil) rest)
+    pick (joins l r) (node b (l ++ x ∷ r) w k rest) (node b l none (node x r w k nil) rest)
 settle b l none (node x r w k (node c s u j i)) rest = node b l none (node x r w k (node c s u j i)) rest
 
 -- The forest without the number at the key a ∷ k. The key's node and its ancestors are settled, a sibling passed over
