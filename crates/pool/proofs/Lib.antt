@@ -6,3 +6,4 @@ pub mod Stands
 pub mod Held
 pub mod Sums
 pub mod Answers
+pub mod Reach

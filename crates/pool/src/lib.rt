@@ -290,3 +290,5 @@ pub fn counts(labels: &[u8], words: &[u32]) -> Counted
     let n = nodes_in(words);
     Counted::Counts(keys_in(words, n), n)
 }
+
+pub mod splice;

@@ -1,0 +1,53 @@
+-- `pool::splice::relink` meets its contract: the spans of the slots passed are right. Assumes nothing.
+use Prim.Native.Nat.{_≤_}
+use native.Mathlib.Omega.{arith}
+use Rattle.pool.proofs.Reach.{Linking, linking-none, linking-at, linking-step, linking-done}
+use Rattle.pool.proofs.splice.relink.Statement.{statement}
+use Rattle.pool.proofs.splice.relink.Tie as tie
+
+abbrev Inv-loop : tie.InvT-loop
+Inv-loop words₀ n i₀ words i = (i ≤ n) × Linking words₀ words i n
+
+abbrev μ-loop : tie.MeasureT-loop
+μ-loop words₀ n i₀ words i = i
+
+loop-holds : tie.Need-loop-holds Inv-loop μ-loop
+loop-holds c = (omega arith, linking-none _ _)
+
+sub-i : tie.Need-sub-i Inv-loop μ-loop
+sub-i c = omega arith
+
+extent-requires : tie.Need-extent-requires Inv-loop μ-loop
+extent-requires c κs =
+    let k = c .before .before .loop .inv .1 in
+    (omega (arith, k .len), omega arith, omega arith, λ j a b. k .spans j (omega arith) b)
+
+set-span-requires : tie.Need-set-span-requires Inv-loop μ-loop
+set-span-requires c κs = omega (arith, c .before .before .before .before .loop .inv .1 .len)
+
+loop-less : tie.Need-loop-less Inv-loop μ-loop
+loop-less c = omega arith
+
+loop-again : tie.Need-loop-again Inv-loop μ-loop
+loop-again c = (omega arith, linking-step _ _ _ _ _ _ (omega arith) (omega arith) (omega arith) (c .before .before .before .before .extent .ensures .0) (c .before .before .set-span .ensures) (c .before .before .before .before .before .before .before .loop .inv .1))
+
+same-length : tie.Need-same-length Inv-loop μ-loop
+same-length c = c .before .loop .inv .1 .len
+
+returns : tie.Need-returns Inv-loop μ-loop
+returns c = linking-done (omega arith) (c .before .loop .inv .1)
+
+pub relink-spec : {M : Type 1} → statement M
+relink-spec =
+    tie.close
+    (tie.spec
+    Inv-loop
+    μ-loop
+    loop-holds
+    sub-i
+    extent-requires
+    set-span-requires
+    loop-less
+    loop-again
+    same-length
+    returns)

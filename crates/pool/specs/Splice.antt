@@ -1,0 +1,59 @@
+-- Splices of the list of records. A record but for its span is determined by its node alone, and the spans by the starts
+-- and lengths of the slots: so a splice moves bare records, and then the spans are put right.
+use mathlib.Core.Path.{_≡_}
+use mathlib.Core.List.{List, [], _∷_, _++_}
+use mathlib.Core.Bool.{true, false}
+use mathlib.Core.Logic.{_⊎_}
+use Prim.Native.Nat.{ℕ, zero, suc, _+_, _*_, _-_, _≤_, _<_}
+use lib.ListN.{length, getD}
+use lib.Dec.{leb}
+use Rattle.tree.specs.Key.{Key}
+use Rattle.tree.specs.Map.{Num}
+use Rattle.tree.specs.Tree.{Forest, nil, node, Tree, keysW}
+use Rattle.pool.specs.Layout.{startOf, lenOf, hasOf, spanOf, labelOf, numAt}
+
+-- A record without its span
+pub record Bare : Type 0 where
+  pub start : ℕ
+  pub len : ℕ
+  pub has : ℕ
+  pub num : Num
+  pub label : List ℕ
+
+unfoldable pub bareAt : (ws bs : List ℕ) → ℕ → Bare
+bareAt ws bs i = record { start = startOf ws i; len = lenOf ws i; has = hasOf ws i; num = numAt ws i; label = labelOf ws bs i }
+
+-- The bare records of m slots from slot i on
+unfoldable pub baresFrom : (ws bs : List ℕ) (i m : ℕ) → List Bare
+baresFrom ws bs i zero = []
+baresFrom ws bs i (suc m) = bareAt ws bs i ∷ baresFrom ws bs (suc i) m
+
+abbrev pub nodeBare : (s b : ℕ) (l : Key) (w : Num) → Bare
+nodeBare s b l w = record { start = s; len = suc (length l); has = keysW w; num = w; label = b ∷ l }
+
+-- The nodes of a forest in preorder
+unfoldable pub baresF : (s : ℕ) → Forest → List Bare
+baresF s nil = []
+baresF s (node b l w kids rest) = nodeBare s b l w ∷ baresF (s + suc (length l)) kids ++ baresF s rest
+
+abbrev pub rootBare : Num → Bare
+rootBare w = record { start = 0; len = 0; has = keysW w; num = w; label = [] }
+
+unfoldable pub baresT : Tree → List Bare
+baresT t = rootBare (t .num) ∷ baresF 0 (t .kids)
+
+-- How many of the m slots from i on, one behind another, start at base or deeper
+unfoldable pub reach : (ws : List ℕ) (base i m : ℕ) → ℕ
+reach ws base i zero = 0
+reach ws base i (suc m) = elim (leb base (startOf ws i)) [ true ↦ suc (reach ws base (suc i) m) | false ↦ 0 ]
+
+-- From slot i on the spans of the first n slots are right: a slot's subtree are the slots behind it that start at the end of
+-- its label or deeper.
+abbrev pub Linked : (ws : List ℕ) (i n : ℕ) → Type 0
+Linked ws i n = (j : ℕ) → i ≤ j → j < n → spanOf ws j ≡ 1 + reach ws (startOf ws j + lenOf ws j) (j + 1) (n - (j + 1))
+
+-- The spans are right, and nothing else has changed.
+pub record Relinked (ws vs : List ℕ) (n : ℕ) : Type 0 where
+  pub len : length vs ≡ length ws
+  pub spans : Linked vs 0 n
+  pub rest : (j : ℕ) → ((i : ℕ) → j ≡ 6 * i + 12 → ⊥) → getD vs j 0 ≡ getD ws j 0
