@@ -2,8 +2,10 @@ pub mod Test
 pub mod Kin
 pub mod Decode
 pub mod Ruled
+pub mod Runs
 pub mod Stands
 pub mod Held
 pub mod Sums
 pub mod Answers
 pub mod Reach
+pub mod Bares

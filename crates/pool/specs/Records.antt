@@ -21,10 +21,13 @@ unfoldable pub recAt : (ws bs : List ℕ) → ℕ → Rec
 recAt ws bs i =
     record { start = startOf ws i; len = lenOf ws i; has = hasOf ws i; num = numAt ws i; span = spanOf ws i; label = labelOf ws bs i }
 
--- The records of m slots from slot i on
-unfoldable pub recsFrom : (ws bs : List ℕ) (i m : ℕ) → List Rec
-recsFrom ws bs i zero = []
-recsFrom ws bs i (suc m) = recAt ws bs i ∷ recsFrom ws bs (suc i) m
+-- What m slots say one after another, from slot i on
+unfoldable pub run : {A : Type 0} → (at : ℕ → A) (i m : ℕ) → List A
+run at i zero = []
+run at i (suc m) = at i ∷ run at (suc i) m
+
+abbrev pub recsFrom : (ws bs : List ℕ) (i m : ℕ) → List Rec
+recsFrom ws bs i m = run (recAt ws bs) i m
 
 -- A node under a path of s bytes, with so many nodes below it
 abbrev pub nodeRec : (s b : ℕ) (l : Key) (w : Num) (below : ℕ) → Rec

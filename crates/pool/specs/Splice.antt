@@ -11,6 +11,7 @@ use Rattle.tree.specs.Key.{Key}
 use Rattle.tree.specs.Map.{Num}
 use Rattle.tree.specs.Tree.{Forest, nil, node, Tree, keysW}
 use Rattle.pool.specs.Layout.{startOf, lenOf, hasOf, spanOf, labelOf, numAt}
+use Rattle.pool.specs.Records.{run}
 
 -- A record without its span
 pub record Bare : Type 0 where
@@ -23,10 +24,8 @@ pub record Bare : Type 0 where
 unfoldable pub bareAt : (ws bs : List ℕ) → ℕ → Bare
 bareAt ws bs i = record { start = startOf ws i; len = lenOf ws i; has = hasOf ws i; num = numAt ws i; label = labelOf ws bs i }
 
--- The bare records of m slots from slot i on
-unfoldable pub baresFrom : (ws bs : List ℕ) (i m : ℕ) → List Bare
-baresFrom ws bs i zero = []
-baresFrom ws bs i (suc m) = bareAt ws bs i ∷ baresFrom ws bs (suc i) m
+abbrev pub baresFrom : (ws bs : List ℕ) (i m : ℕ) → List Bare
+baresFrom ws bs i m = run (bareAt ws bs) i m
 
 abbrev pub nodeBare : (s b : ℕ) (l : Key) (w : Num) → Bare
 nodeBare s b l w = record { start = s; len = suc (length l); has = keysW w; num = w; label = b ∷ l }
