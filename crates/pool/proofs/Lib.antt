@@ -9,3 +9,4 @@ pub mod Sums
 pub mod Answers
 pub mod Reach
 pub mod Bares
+pub mod Slots

@@ -5,13 +5,16 @@ use mathlib.Core.List.{List, [], _∷_, _++_}
 use mathlib.Core.Bool.{true, false}
 use mathlib.Core.Logic.{_⊎_}
 use Prim.Native.Nat.{ℕ, zero, suc, _+_, _*_, _-_, _≤_, _<_}
-use lib.ListN.{length, getD}
+use lib.ListN.{length, getD, take, drop}
+use lib.Seq.{sets}
+use mathlib.Core.Option.{none, some}
 use lib.Dec.{leb}
 use Rattle.tree.specs.Key.{Key}
 use Rattle.tree.specs.Map.{Num}
 use Rattle.tree.specs.Tree.{Forest, nil, node, Tree, keysW}
 use Rattle.pool.specs.Layout.{startOf, lenOf, hasOf, spanOf, labelOf, numAt}
 use Rattle.pool.specs.Records.{run}
+use Rattle.pool.specs.declared.splice.Stored.{Stored}
 
 -- A record without its span
 pub record Bare : Type 0 where
@@ -56,3 +59,46 @@ pub record Relinked (ws vs : List ℕ) (n : ℕ) : Type 0 where
   pub len : length vs ≡ length ws
   pub spans : Linked vs 0 n
   pub rest : (j : ℕ) → ((i : ℕ) → j ≡ 6 * i + 12 → ⊥) → getD vs j 0 ≡ getD ws j 0
+
+-- There are slots `to` .. `to` + k to move into.
+pub record Room (ws bs : List ℕ) (from to k : ℕ) : Type 0 where
+  pub order : from ≤ to
+  pub words : 6 * to + 6 * k + 8 ≤ length ws
+  pub labels : 255 * to + 255 * k ≤ length bs
+
+-- The slots from .. to stand k slots higher; what is not written over stays.
+pub record Moved (ws bs vs cs : List ℕ) (from to k : ℕ) : Type 0 where
+  pub lenW : length vs ≡ length ws
+  pub lenB : length cs ≡ length bs
+  pub head : (j : ℕ) → j < 8 → getD vs j 0 ≡ getD ws j 0
+  pub low : (i : ℕ) → i < from + k → bareAt vs cs i ≡ bareAt ws bs i
+  pub moved : (i : ℕ) → from ≤ i → i < to → bareAt vs cs (i + k) ≡ bareAt ws bs i
+  pub high : (i : ℕ) → to + k ≤ i → 255 * i + 255 ≤ length bs → bareAt vs cs i ≡ bareAt ws bs i
+
+abbrev pub storedOf : Stored → Num
+storedOf Stored.Nothing = none
+storedOf (Stored.Number v) = some (v .0)
+
+abbrev pub numberWord : Num → ℕ
+numberWord none = 0
+numberWord (some v) = v
+
+-- A slot's words but for its span
+unfoldable pub headPut : (ws : List ℕ) (i start len : ℕ) → Num → List ℕ
+headPut ws i start len w = sets ws (6 * i + 8) (start ∷ len ∷ keysW w ∷ numberWord w ∷ [])
+
+-- A slot's label
+unfoldable pub labelPut : (bs : List ℕ) (i : ℕ) (l : List ℕ) → List ℕ
+labelPut bs i l = take (255 * i) bs ++ (l ++ drop (255 * i + length l) bs)
+
+-- What a slot with the label l and the number w says
+abbrev pub bareOf : (start : ℕ) (l : List ℕ) → Num → Bare
+bareOf start l w = record { start = start; len = length l; has = keysW w; num = w; label = l }
+
+-- Slot `at` says x, and every other slot what it said.
+pub record Filled (ws bs vs cs : List ℕ) (at : ℕ) (x : Bare) : Type 0 where
+  pub lenW : length vs ≡ length ws
+  pub lenB : length cs ≡ length bs
+  pub head : (j : ℕ) → j < 8 → getD vs j 0 ≡ getD ws j 0
+  pub slot : bareAt vs cs at ≡ x
+  pub others : (i : ℕ) → (i ≡ at → ⊥) → 255 * i + 255 ≤ length bs → bareAt vs cs i ≡ bareAt ws bs i

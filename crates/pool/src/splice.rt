@@ -4,8 +4,9 @@ ghost use mathlib.Core.Path.{_≡_};
 ghost use Prim.Native.Nat.{_+_, _*_, _-_, _≤_, _<_};
 ghost use lib.ListN.{length, set};
 ghost use Rattle.pool.specs.Layout.{startOf, lenOf};
-ghost use Rattle.pool.specs.Splice.{reach, Linked, Relinked};
+ghost use Rattle.pool.specs.Splice.{reach, Linked, Relinked, Room, Moved, storedOf, headPut, labelPut, bareOf, Filled};
 
+use tree::RuleNo;
 use tree::Slot;
 
 // Writes the span of a slot.
@@ -45,4 +46,60 @@ pub fn relink(words: &mut [u32], n: usize)
         let span = extent(words, n, i);
         set_span(words, Slot(i), span);
     }
+}
+
+// A number that may be missing.
+pub enum Stored {
+    Nothing,
+    Number(RuleNo),
+}
+
+// Opens a gap: the slots `from` .. `to` move up by k.
+pub fn move_slots(labels: &mut [u8], words: &mut [u32], from: Slot, to: Slot, k: usize)
+    requires { ⌜ Room (now words) (now labels) (from .0) (to .0) k ⌝ }
+    ensures { λ _. ⌜ Moved (now (words .entry)) (now (labels .entry)) (now (words .exit)) (now (labels .exit)) (from .0) (to .0) k ⌝ }
+{
+    let from = from.0;
+    let to = to.0;
+    label::move_words_up(words, 6 * from + 8, 6 * to + 8, 6 * k);
+    label::move_bytes_up(labels, 255 * from, 255 * to, 255 * k);
+}
+
+// Writes a slot's words but for its span.
+fn put_head(words: &mut [u32], at: Slot, start: usize, len: usize, stored: Stored)
+    requires { ⌜ (6 * at .0 + 14 ≤ length (now words)) × (start < 4294967296) × (len < 4294967296) ⌝ }
+    ensures { λ _. ⌜ now (words .exit) ≡ headPut (now (words .entry)) (at .0) start len (storedOf stored) ⌝ }
+{
+    let i = at.0;
+    words[6 * i + 8] = start as u32;
+    words[6 * i + 9] = len as u32;
+    match stored {
+        Stored::Nothing => {
+            words[6 * i + 10] = 0;
+            words[6 * i + 11] = 0;
+        }
+        Stored::Number(v) => {
+            words[6 * i + 10] = 1;
+            words[6 * i + 11] = v.0;
+        }
+    }
+}
+
+// Writes a slot's label.
+fn put_label(labels: &mut [u8], at: Slot, bytes: &[u8])
+    requires { ⌜ (255 * at .0 + 255 ≤ length (now labels)) × (length (now bytes) ≤ 255) ⌝ }
+    ensures { λ _. ⌜ now (labels .exit) ≡ labelPut (now (labels .entry)) (at .0) (now (bytes .entry)) ⌝ }
+{
+    let from = 255 * at.0;
+    let to = from + bytes.len();
+    label::copy(&mut labels[from..to], bytes);
+}
+
+// Fills a slot but for its span: a node under a path of `start` bytes, with its label and number.
+pub fn put_node(labels: &mut [u8], words: &mut [u32], at: Slot, start: usize, bytes: &[u8], stored: Stored)
+    requires { ⌜ (6 * at .0 + 14 ≤ length (now words)) × (255 * at .0 + 255 ≤ length (now labels)) × (start ≤ 4096) × (length (now bytes) ≤ 255) ⌝ }
+    ensures { λ _. ⌜ Filled (now (words .entry)) (now (labels .entry)) (now (words .exit)) (now (labels .exit)) (at .0) (bareOf start (now (bytes .entry)) (storedOf stored)) ⌝ }
+{
+    put_head(words, at, start, bytes.len(), stored);
+    put_label(labels, at, bytes);
 }
