@@ -71,9 +71,9 @@ reach-forest ws bs n base (node b l w kids rest) s c h q e =
     let k = reach-forest ws bs n base kids (s + suc (length l)) (c + 1) (omega arith) (omega arith) (p .below) in
     let r = reach-forest ws bs n base rest s (c + suc (nodesF kids)) h (omega arith) (p .beside) in
     let m : reach ws base (c + 1 + nodesF kids) (n - (c + 1 + nodesF kids)) ≡ reach ws base (c + suc (nodesF kids)) (n - (c + suc (nodesF kids))) =
-      reach-at ws refl (omega arith) (omega arith) in
+    reach-at ws refl (omega arith) (omega arith) in
     let t : reach ws base (c + suc (nodesF kids) + nodesF rest) (n - (c + suc (nodesF kids) + nodesF rest))
-        ≡ reach ws base (c + nodesF (node b l w kids rest)) (n - (c + nodesF (node b l w kids rest))) = reach-at ws refl (omega arith) (omega arith) in
+    ≡ reach ws base (c + nodesF (node b l w kids rest)) (n - (c + nodesF (node b l w kids rest))) = reach-at ws refl (omega arith) (omega arith) in
     omega arith
 
 -- Slot e does not belong to what has a path of s bytes and a label: it is behind the last slot, or starts no deeper.
@@ -253,14 +253,14 @@ spliced-bares ws bs vs cs t C f g h e s mid =
     let lf = baresF-length (depth C) f in
     let n : nodesT t ≡ at + (nodesF f + m) = omega (arith, nodes-around t C f e) in
     let w₁ : baresFrom ws bs 0 at ++ baresFrom ws bs (0 + at) (nodesF f + m) ≡ (rootBare (t .num) ∷ ahead C) ++ (baresF (depth C) f ++ behind C) =
-      sym (run-join (bareAt ws bs) 0 at (nodesF f + m)) ∙ ap (λ (x : ℕ). baresFrom ws bs 0 x) (sym n) ∙ whole in
+    sym (run-join (bareAt ws bs) 0 at (nodesF f + m)) ∙ ap (λ (x : ℕ). baresFrom ws bs 0 x) (sym n) ∙ whole in
     let p = append-parts (baresFrom ws bs 0 at) _ (rootBare (t .num) ∷ ahead C) _ (run-length (bareAt ws bs) 0 at ∙ sym al) w₁ in
     let z : 0 + at ≡ at = omega arith in
     let w₂ : baresFrom ws bs at (nodesF f) ++ baresFrom ws bs (at + nodesF f) m ≡ baresF (depth C) f ++ behind C =
-      sym (run-join (bareAt ws bs) at (nodesF f) m) ∙ ap (λ (x : ℕ). baresFrom ws bs x (nodesF f + m)) (sym z) ∙ p .1 in
+    sym (run-join (bareAt ws bs) at (nodesF f) m) ∙ ap (λ (x : ℕ). baresFrom ws bs x (nodesF f + m)) (sym z) ∙ p .1 in
     let q = append-parts (baresFrom ws bs at (nodesF f)) _ (baresF (depth C) f) _ (run-length (bareAt ws bs) at (nodesF f) ∙ sym lf) w₂ in
     let j : baresFrom vs cs 0 (at + nodesF g + m) ≡ (baresFrom vs cs 0 at ++ baresFrom vs cs (0 + at) (nodesF g)) ++ baresFrom vs cs (0 + (at + nodesF g)) m =
-      run-join (bareAt vs cs) 0 (at + nodesF g) m ∙ ap (λ (x : List Bare). x ++ baresFrom vs cs (0 + (at + nodesF g)) m) (run-join (bareAt vs cs) 0 at (nodesF g)) in
+    run-join (bareAt vs cs) 0 (at + nodesF g) m ∙ ap (λ (x : List Bare). x ++ baresFrom vs cs (0 + (at + nodesF g)) m) (run-join (bareAt vs cs) 0 at (nodesF g)) in
     let z₂ : 0 + (at + nodesF g) ≡ at + nodesF g = omega arith in
     let b = ap (λ (x : ℕ). baresFrom vs cs x m) z₂ ∙ s .back ∙ q .1 in
     let k = ap (λ (x : ℕ). baresFrom vs cs x (nodesF g)) z ∙ mid in

@@ -10,3 +10,4 @@ pub mod Answers
 pub mod Reach
 pub mod Bares
 pub mod Slots
+pub mod Gaps

@@ -49,13 +49,14 @@ reach-jump ws b d h i (suc m) = by-lt (startOf ws i) d stop (go (reach-jump ws b
         let z = reach-stop ws d i (suc m) l in
         let e : reach ws b (i + reach ws d i (suc m)) (suc m - reach ws d i (suc m)) ≡ reach ws b i (suc m) = reach-at ws refl (omega arith) (omega arith) in
         omega arith
+
     go : reach ws b (suc i) m ≡ reach ws d (suc i) m + reach ws b (suc i + reach ws d (suc i) m) (m - reach ws d (suc i) m)
         → d ≤ startOf ws i → reach ws b i (suc m) ≡ reach ws d i (suc m) + reach ws b (i + reach ws d i (suc m)) (suc m - reach ws d i (suc m))
     go ih l =
         let p = reach-on ws b i m (omega arith) in
         let q = reach-on ws d i m l in
         let e : reach ws b (i + reach ws d i (suc m)) (suc m - reach ws d i (suc m)) ≡ reach ws b (suc i + reach ws d (suc i) m) (m - reach ws d (suc i) m) =
-          reach-at ws refl (omega arith) (omega arith) in
+        reach-at ws refl (omega arith) (omega arith) in
         omega arith
 
 -- A walk from child to child has passed what belongs to the slot.
@@ -77,7 +78,7 @@ walk-on ws base i n j s link h l e w =
     let b = reach-jump ws base d (omega arith) (j + 1) (n - (j + 1)) in
     let c : reach ws base (suc j) (n - suc j) ≡ reach ws base (j + 1) (n - (j + 1)) = reach-at ws refl (omega arith) (omega arith) in
     let f : reach ws base (j + 1 + reach ws d (j + 1) (n - (j + 1))) (n - (j + 1) - reach ws d (j + 1) (n - (j + 1))) ≡ reach ws base (j + s) (n - (j + s)) =
-      reach-at ws refl (omega arith) (omega arith) in
+    reach-at ws refl (omega arith) (omega arith) in
     record { low = omega (arith, w .low); high = omega arith; rest = omega (arith, w .rest, w .low) }
 
 -- the walk ends at a slot that starts less deep, or behind the last one
@@ -122,14 +123,14 @@ pub linking-more : (ws vs : List ℕ) (i n s : ℕ) → i < n → 6 * n + 8 ≤ 
     → s ≡ 1 + reach vs (startOf vs i + lenOf vs i) (i + 1) (n - (i + 1)) → Linking ws vs (i + 1) n → Linking ws (set vs (6 * i + 12) s) i n
 linking-more ws vs i n s h r e k =
     let kept : (j : ℕ) → reach (set vs (6 * i + 12) s) (startOf (set vs (6 * i + 12) s) j + lenOf (set vs (6 * i + 12) s) j) (j + 1) (n - (j + 1))
-        ≡ reach vs (startOf vs j + lenOf vs j) (j + 1) (n - (j + 1)) =
-      λ j. rw (start-kept vs i s j, len-kept vs i s j) (reach-kept vs i s (startOf vs j + lenOf vs j) (j + 1) (n - (j + 1))) in
+    ≡ reach vs (startOf vs j + lenOf vs j) (j + 1) (n - (j + 1)) =
+    λ j. rw (start-kept vs i s j, len-kept vs i s j) (reach-kept vs i s (startOf vs j + lenOf vs j) (j + 1) (n - (j + 1))) in
     record {
       len = length-set vs (6 * i + 12) s ∙ k .len;
       spans = λ j a b.
-        by-eq j i
-        (λ q. rw q (getD-set-same vs (6 * i + 12) s 0 (omega (arith, k .len)) ∙ e ∙ ap (λ (x : ℕ). 1 + x) (sym (kept i))))
-        (λ ne. getD-set-other vs (6 * i + 12) (6 * j + 12) s 0 (λ q. ne (omega arith)) ∙ k .spans j (by-lt i j (λ l. omega arith) (λ l. absurd (ne (omega arith)))) b ∙ ap (λ (x : ℕ). 1 + x) (sym (kept j)));
+          by-eq j i
+          (λ q. rw q (getD-set-same vs (6 * i + 12) s 0 (omega (arith, k .len)) ∙ e ∙ ap (λ (x : ℕ). 1 + x) (sym (kept i))))
+          (λ ne. getD-set-other vs (6 * i + 12) (6 * j + 12) s 0 (λ q. ne (omega arith)) ∙ k .spans j (by-lt i j (λ l. omega arith) (λ l. absurd (ne (omega arith)))) b ∙ ap (λ (x : ℕ). 1 + x) (sym (kept j)));
       rest = λ j q. getD-set-other vs (6 * i + 12) j s 0 (q i) ∙ k .rest j q;
     }
 

@@ -65,5 +65,5 @@ run-ext f g j i zero h = refl
 run-ext f g j i (suc m) h =
     let head : f j ≡ g i = ap f (omega arith) ∙ h 0 (omega arith) ∙ ap g (omega arith) in
     let tail : run f (suc j) m ≡ run g (suc i) m =
-        run-ext f g (suc j) (suc i) m (λ x l. ap f (omega arith) ∙ h (suc x) (omega arith) ∙ ap g (omega arith)) in
+    run-ext f g (suc j) (suc i) m (λ x l. ap f (omega arith) ∙ h (suc x) (omega arith) ∙ ap g (omega arith)) in
     cc

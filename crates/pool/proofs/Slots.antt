@@ -15,17 +15,17 @@ use Rattle.pool.specs.Layout.{startOf, lenOf, hasOf, numberOf, labelOf, 
 use Rattle.pool.specs.Splice.{Bare, bareAt, Room, Moved, numberWord, headPut, labelPut, bareOf, Filled}
 
 -- m places of a list from place a on
-abbrev block : List ℕ → ℕ → ℕ → List ℕ
+abbrev pub block : List ℕ → ℕ → ℕ → List ℕ
 block bs a m = take m (drop a bs)
 
 -- two parts that agree place by place are equal
-block-eq : (vs ws : List ℕ) (b a m : ℕ) → b + m ≤ length vs → a + m ≤ length ws → ((j : ℕ) → j < m → getD vs (b + j) 0 ≡ getD ws (a + j) 0)
+pub block-eq : (vs ws : List ℕ) (b a m : ℕ) → b + m ≤ length vs → a + m ≤ length ws → ((j : ℕ) → j < m → getD vs (b + j) 0 ≡ getD ws (a + j) 0)
     → block vs b m ≡ block ws a m
 block-eq vs ws b a m hv hw same =
     ext-getD 0 (block vs b m) (block ws a m) (simp (length-take, length-drop) (omega arith))
     (λ j l.
-      let h : j < m = omega (arith, l, length-take m (drop b vs)) in
-      simp (getD-take m (drop b vs) j 0 h, getD-take m (drop a ws) j 0 h, getD-drop) (same j h))
+    let h : j < m = omega (arith, l, length-take m (drop b vs)) in
+    simp (getD-take m (drop b vs) j 0 h, getD-take m (drop a ws) j 0 h, getD-drop) (same j h))
 
 -- the words of a slot agree, and its 255 bytes: it says the same
 pub bare-eq : (vs cs ws bs : List ℕ) (j i : ℕ) → ((o : ℕ) → o < 4 → getD vs (6 * j + (8 + o)) 0 ≡ getD ws (6 * i + (8 + o)) 0)
@@ -38,7 +38,7 @@ bare-eq vs cs ws bs j i w b =
     let w₃ : numberOf vs j ≡ numberOf ws i = w 3 (omega arith) in
     rw (w₀, w₁, w₂, w₃, b)
 
-at-place : (vs : List ℕ) {x y : ℕ} → x ≡ y → getD vs x 0 ≡ getD vs y 0
+pub at-place : (vs : List ℕ) {x y : ℕ} → x ≡ y → getD vs x 0 ≡ getD vs y 0
 at-place vs e = ap (λ (x : ℕ). getD vs x 0) e
 
 -- Words and bytes moved up are slots moved up.
@@ -53,17 +53,17 @@ slots-moved ws bs vs cs from to k r s t =
       lenB = t .len;
       head = λ j h. s .low j (omega arith);
       low = λ i h.
-        bare-eq vs cs ws bs i i
-        (λ o l. s .low (6 * i + (8 + o)) (omega arith))
-        (block-eq cs bs (255 * i) (255 * i) 255 (omega arith) (omega arith) (λ j l. t .low (255 * i + j) (omega arith)));
+          bare-eq vs cs ws bs i i
+          (λ o l. s .low (6 * i + (8 + o)) (omega arith))
+          (block-eq cs bs (255 * i) (255 * i) 255 (omega arith) (omega arith) (λ j l. t .low (255 * i + j) (omega arith)));
       moved = λ i h l.
-        bare-eq vs cs ws bs (i + k) i
-        (λ o m. at-place vs (omega arith) ∙ s .mid (6 * i + (8 + o)) (omega arith) (omega arith))
-        (block-eq cs bs (255 * (i + k)) (255 * i) 255 (omega arith) (omega arith) (λ j m. at-place cs (omega arith) ∙ t .mid (255 * i + j) (omega arith) (omega arith)));
+          bare-eq vs cs ws bs (i + k) i
+          (λ o m. at-place vs (omega arith) ∙ s .mid (6 * i + (8 + o)) (omega arith) (omega arith))
+          (block-eq cs bs (255 * (i + k)) (255 * i) 255 (omega arith) (omega arith) (λ j m. at-place cs (omega arith) ∙ t .mid (255 * i + j) (omega arith) (omega arith)));
       high = λ i h l.
-        bare-eq vs cs ws bs i i
-        (λ o m. s .high (6 * i + (8 + o)) (omega arith))
-        (block-eq cs bs (255 * i) (255 * i) 255 (omega arith) l (λ j m. t .high (255 * i + j) (omega arith)));
+          bare-eq vs cs ws bs i i
+          (λ o m. s .high (6 * i + (8 + o)) (omega arith))
+          (block-eq cs bs (255 * i) (255 * i) 255 (omega arith) l (λ j m. t .high (255 * i + j) (omega arith)));
     }
 
 -- A run of stores, place by place
@@ -143,10 +143,10 @@ module _ (bs : List ℕ) (i : ℕ) (l : List ℕ) (fits : 255 * i + length l ≤
       let c = labelPut bs i l in
       take-take (length l) 255 (drop (255 * i) c) h
       ∙ ext-getD 0 (take (length l) (drop (255 * i) c)) l
-        (simp (length-take, length-drop) (omega (arith, put-length)))
-        (λ j q.
-          let g : j < length l = omega (arith, q, length-take (length l) (drop (255 * i) c)) in
-          getD-take (length l) (drop (255 * i) c) j 0 g ∙ getD-drop (255 * i) c j 0 ∙ put-mid j g)
+      (simp (length-take, length-drop) (omega (arith, put-length)))
+      (λ j q.
+      let g : j < length l = omega (arith, q, length-take (length l) (drop (255 * i) c)) in
+      getD-take (length l) (drop (255 * i) c) j 0 g ∙ getD-drop (255 * i) c j 0 ∙ put-mid j g)
 
 -- has and number read back
 num-read : (w : Num) → numOf (keysW w) (numberWord w) ≡ w
@@ -183,14 +183,15 @@ module _ (ws bs : List ℕ) (at start : ℕ) (l : List ℕ) (w : Num) (inW : 6 *
         head = λ j h. sets-low ws (6 * at + 8) new j (omega arith);
         slot = filled-slot;
         others = λ i ne r.
-          bare-eq (headPut ws at start (length l) w) (labelPut bs at l) ws bs i i
-          (λ o h. by-lt i at (λ m. sets-low ws (6 * at + 8) new (6 * i + (8 + o)) (omega arith)) (λ m. sets-high ws (6 * at + 8) new (6 * i + (8 + o)) (other i o ne m)))
-          (block-eq (labelPut bs at l) bs (255 * i) (255 * i) 255 (omega (arith, lb)) r
-          (λ j h. by-lt i at (λ m. put-low bs at l (omega arith) (255 * i + j) (omega arith)) (λ m. put-high bs at l (omega arith) (255 * i + j) (past i j ne m))));
+            bare-eq (headPut ws at start (length l) w) (labelPut bs at l) ws bs i i
+            (λ o h. by-lt i at (λ m. sets-low ws (6 * at + 8) new (6 * i + (8 + o)) (omega arith)) (λ m. sets-high ws (6 * at + 8) new (6 * i + (8 + o)) (other i o ne m)))
+            (block-eq (labelPut bs at l) bs (255 * i) (255 * i) 255 (omega (arith, lb)) r
+            (λ j h. by-lt i at (λ m. put-low bs at l (omega arith) (255 * i + j) (omega arith)) (λ m. put-high bs at l (omega arith) (255 * i + j) (past i j ne m))));
       }
     where
       other : (i o : ℕ) → (i ≡ at → ⊥) → at ≤ i → 6 * at + 8 + 4 ≤ 6 * i + (8 + o)
       other i o ne m = by-lt at i (λ h. omega arith) (λ h. absurd (ne (omega arith)))
+
       past : (i j : ℕ) → (i ≡ at → ⊥) → at ≤ i → 255 * at + length l ≤ 255 * i + j
       past i j ne m = by-lt at i (λ h. omega arith) (λ h. absurd (ne (omega arith)))
 

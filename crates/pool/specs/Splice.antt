@@ -102,3 +102,27 @@ pub record Filled (ws bs vs cs : List ℕ) (at : ℕ) (x : Bare) : Type 0 where
   pub head : (j : ℕ) → j < 8 → getD vs j 0 ≡ getD ws j 0
   pub slot : bareAt vs cs at ≡ x
   pub others : (i : ℕ) → (i ≡ at → ⊥) → 255 * i + 255 ≤ length bs → bareAt vs cs i ≡ bareAt ws bs i
+
+-- The records with a label
+abbrev pub keepIf : (len : ℕ) → Bare → List Bare → List Bare
+keepIf zero x xs = xs
+keepIf (suc m) x xs = x ∷ xs
+
+unfoldable pub solid : List Bare → List Bare
+solid [] = []
+solid (x ∷ xs) = keepIf (x .len) x (solid xs)
+
+-- Slot i is a gap and passed, or it is kept as slot j.
+pub data Swept (ws bs vs cs : List ℕ) (i j r : ℕ) : Type 0 where
+  gone : lenOf ws i ≡ 0 → r ≡ j → vs ≡ ws → cs ≡ bs → Swept ws bs vs cs i j r
+  kept : (lenOf ws i ≡ 0 → ⊥) → r ≡ j + 1 → Filled ws bs vs cs j (bareAt ws bs i) → Swept ws bs vs cs i j r
+
+-- Of n slots r are left: the root, and the others with a label, in their order.
+pub record Closed (ws bs vs cs : List ℕ) (n r : ℕ) : Type 0 where
+  pub lenW : length vs ≡ length ws
+  pub lenB : length cs ≡ length bs
+  pub head : (j : ℕ) → j < 8 → getD vs j 0 ≡ getD ws j 0
+  pub least : 1 ≤ r
+  pub most : r ≤ n
+  pub root : bareAt vs cs 0 ≡ bareAt ws bs 0
+  pub slots : baresFrom vs cs 1 (r - 1) ≡ solid (baresFrom ws bs 1 (n - 1))

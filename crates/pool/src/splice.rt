@@ -4,8 +4,7 @@ ghost use mathlib.Core.Path.{_≡_};
 ghost use Prim.Native.Nat.{_+_, _*_, _-_, _≤_, _<_};
 ghost use lib.ListN.{length, set};
 ghost use Rattle.pool.specs.Layout.{startOf, lenOf};
-ghost use Rattle.pool.specs.Splice.{reach, Linked, Relinked, Room, Moved, storedOf, headPut, labelPut, bareOf, Filled};
-
+ghost use Rattle.pool.specs.Splice.{reach, Linked, Relinked, Room, Moved, storedOf, headPut, labelPut, bareOf, bareAt, Filled, Swept, Closed};
 use tree::RuleNo;
 use tree::Slot;
 
@@ -96,10 +95,57 @@ fn put_label(labels: &mut [u8], at: Slot, bytes: &[u8])
 }
 
 // Fills a slot but for its span: a node under a path of `start` bytes, with its label and number.
-pub fn put_node(labels: &mut [u8], words: &mut [u32], at: Slot, start: usize, bytes: &[u8], stored: Stored)
+pub fn put_node(
+    labels: &mut [u8],
+    words: &mut [u32],
+    at: Slot,
+    start: usize,
+    bytes: &[u8],
+    stored: Stored,
+)
     requires { ⌜ (6 * at .0 + 14 ≤ length (now words)) × (255 * at .0 + 255 ≤ length (now labels)) × (start ≤ 4096) × (length (now bytes) ≤ 255) ⌝ }
     ensures { λ _. ⌜ Filled (now (words .entry)) (now (labels .entry)) (now (words .exit)) (now (labels .exit)) (at .0) (bareOf start (now (bytes .entry)) (storedOf stored)) ⌝ }
 {
     put_head(words, at, start, bytes.len(), stored);
     put_label(labels, at, bytes);
+}
+
+// Moves one slot down.
+fn lower_slot(labels: &mut [u8], words: &mut [u32], from: Slot, to: Slot)
+    requires { ⌜ (to .0 < from .0) × (6 * from .0 + 14 ≤ length (now words)) × (255 * from .0 + 255 ≤ length (now labels)) ⌝ }
+    ensures { λ _. ⌜ Filled (now (words .entry)) (now (labels .entry)) (now (words .exit)) (now (labels .exit)) (to .0) (bareAt (now (words .entry)) (now (labels .entry)) (from .0)) ⌝ }
+{
+    let i = from.0;
+    let k = i - to.0;
+    label::move_words_down(words, 6 * i + 8, 6 * i + 14, 6 * k);
+    label::move_bytes_down(labels, 255 * i, 255 * i + 255, 255 * k);
+}
+
+// Keeps slot i, as slot j, or passes it: one without a label is a gap. Gives the next place.
+fn sweep_slot(labels: &mut [u8], words: &mut [u32], i: usize, j: usize) -> usize
+    requires { ⌜ (j ≤ i) × (6 * i + 14 ≤ length (now words)) × (255 * i + 255 ≤ length (now labels)) ⌝ }
+    ensures { λ r. ⌜ Swept (now (words .entry)) (now (labels .entry)) (now (words .exit)) (now (labels .exit)) i j r ⌝ }
+{
+    if crate::len_at(words, Slot(i)) == 0 {
+        return j;
+    }
+    if j == i {
+        return j + 1;
+    }
+    lower_slot(labels, words, Slot(i), Slot(j));
+    j + 1
+}
+
+// Closes every gap in one sweep: a slot but the root without a label is one, and goes. Gives the slots then in use.
+pub fn close_gaps(labels: &mut [u8], words: &mut [u32], n: usize) -> usize
+    requires { ⌜ (1 ≤ n) × (6 * n + 8 ≤ length (now words)) × (255 * n ≤ length (now labels)) ⌝ }
+    ensures { λ r. ⌜ Closed (now (words .entry)) (now (labels .entry)) (now (words .exit)) (now (labels .exit)) n r ⌝ }
+{
+    let mut j: usize = 1;
+    let mut i: usize = 1;
+    while i < n {
+        j = sweep_slot(labels, words, i, j);
+        i += 1;
+    }
+    j
 }

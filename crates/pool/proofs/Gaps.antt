@@ -1,0 +1,172 @@
+-- Gaps closed in one sweep. Assumes nothing.
+use mathlib.Core.Path.{_≡_, refl, sym, ap, _∙_, subst}
+use mathlib.Core.List.{List, [], _∷_, _++_, append-assoc, append-nil}
+use Prim.Native.Nat.{ℕ, zero, suc, _+_, _*_, _-_, _≤_, _<_}
+use native.Mathlib.Omega.{arith}
+use lib.ListN.{length, getD}
+use Rattle.tree.specs.Tree.{Forest, nil, node}
+use Rattle.label.specs.Runs.{MovedDown}
+use Rattle.label.proofs.Moves.{by-lt, by-eq}
+use Rattle.pool.specs.Layout.{lenOf}
+use Rattle.pool.specs.Records.{run}
+use Rattle.pool.specs.Splice.{Bare, bareAt, baresFrom, nodeBare, baresF, Filled, keepIf, solid, Swept, gone, kept, Closed}
+use Rattle.pool.proofs.Runs.{run-join, run-cons, run-ext}
+use Rattle.pool.proofs.Slots.{bare-eq, block-eq, at-place}
+
+keep-append : (m : ℕ) (x : Bare) (xs ys : List Bare) → keepIf m x (xs ++ ys) ≡ keepIf m x xs ++ ys
+keep-append zero x xs ys = refl
+keep-append (suc m) x xs ys = refl
+
+keep-kept : (m : ℕ) (x : Bare) (xs : List Bare) → (m ≡ 0 → ⊥) → keepIf m x xs ≡ x ∷ xs
+keep-kept zero x xs ne = absurd (ne refl)
+keep-kept (suc m) x xs ne = refl
+
+pub solid-append : (xs ys : List Bare) → solid (xs ++ ys) ≡ solid xs ++ solid ys
+unfolding solid
+solid-append [] ys = refl
+solid-append (x ∷ xs) ys = ap (keepIf (x .len) x) (solid-append xs ys) ∙ keep-append (x .len) x (solid xs) (solid ys)
+
+pub solid-gap : (x : Bare) → x .len ≡ 0 → solid (x ∷ []) ≡ []
+unfolding solid
+solid-gap x e = ap (λ (m : ℕ). keepIf m x []) e
+
+pub solid-kept : (x : Bare) → (x .len ≡ 0 → ⊥) → solid (x ∷ []) ≡ x ∷ []
+unfolding solid
+solid-kept x ne = keep-kept (x .len) x [] ne
+
+-- The nodes of a forest have labels: none of them goes.
+pub solid-forest : (s : ℕ) (f : Forest) → solid (baresF s f) ≡ baresF s f
+unfolding baresF
+solid-forest s nil = unfold solid in refl
+solid-forest s (node b l w kids rest) =
+    let d = s + suc (length l) in
+    let k = solid-forest d kids in
+    let r = solid-forest s rest in
+    let x = nodeBare s b l w in
+    solid-append (x ∷ []) (baresF d kids ++ baresF s rest) ∙ cc (solid-kept x (λ e. omega arith), solid-append (baresF d kids) (baresF s rest))
+
+-- A slot moved down
+pub slot-lowered : (ws bs vs cs : List ℕ) (i to k : ℕ) → to < i → k ≡ i - to → 6 * i + 14 ≤ length ws → 255 * i + 255 ≤ length bs
+    → MovedDown ws vs (6 * i + 8) (6 * i + 14) (6 * k) → MovedDown bs cs (255 * i) (255 * i + 255) (255 * k) → Filled ws bs vs cs to (bareAt ws bs i)
+slot-lowered ws bs vs cs i to k h e rw′ rb s t =
+    let lb = t .len in
+    record {
+      lenW = s .len;
+      lenB = t .len;
+      head = λ j l. s .low j (omega arith);
+      slot =
+          bare-eq vs cs ws bs to i
+          (λ o l. s .mid (6 * to + (8 + o)) (omega arith) (omega arith) ∙ at-place ws (omega arith))
+          (block-eq cs bs (255 * to) (255 * i) 255 (omega arith) (omega arith) (λ j l. t .mid (255 * to + j) (omega arith) (omega arith) ∙ at-place bs (omega arith)));
+      others = λ x ne r.
+          by-lt x to
+          (λ l.
+          bare-eq vs cs ws bs x x
+          (λ o m. s .low (6 * x + (8 + o)) (omega arith))
+          (block-eq cs bs (255 * x) (255 * x) 255 (omega arith) r (λ j m. t .low (255 * x + j) (omega arith))))
+          (λ l.
+          let g : to < x = by-lt to x (λ m. m) (λ m. absurd (ne (omega arith))) in
+          bare-eq vs cs ws bs x x
+          (λ o m. s .high (6 * x + (8 + o)) (omega arith))
+          (block-eq cs bs (255 * x) (255 * x) 255 (omega arith) r (λ j m. t .high (255 * x + j) (omega arith))));
+    }
+
+-- The sweep has come to slot i, and j slots are kept.
+pub record Sweeping (ws bs vs cs : List ℕ) (i j : ℕ) : Type 0 where
+  pub lenW : length vs ≡ length ws
+  pub lenB : length cs ≡ length bs
+  pub head : (x : ℕ) → x < 8 → getD vs x 0 ≡ getD ws x 0
+  pub least : 1 ≤ j
+  pub most : j ≤ i
+  pub root : bareAt vs cs 0 ≡ bareAt ws bs 0
+  pub ahead : (x : ℕ) → i ≤ x → 255 * x + 255 ≤ length bs → bareAt vs cs x ≡ bareAt ws bs x
+  pub slots : baresFrom vs cs 1 (j - 1) ≡ solid (baresFrom ws bs 1 (i - 1))
+
+pub sweep-none : (ws bs : List ℕ) → Sweeping ws bs ws bs 1 1
+sweep-none ws bs =
+    record {
+      lenW = refl;
+      lenB = refl;
+      head = λ x h. refl;
+      least = omega arith;
+      most = omega arith;
+      root = refl;
+      ahead = λ x h r. refl;
+      slots = unfold run solid in refl;
+    }
+
+-- one record more at the end of a run
+run-more : (ws bs : List ℕ) (i : ℕ) → 1 ≤ i → baresFrom ws bs 1 (i + 1 - 1) ≡ baresFrom ws bs 1 (i - 1) ++ bareAt ws bs i ∷ []
+run-more ws bs i h =
+    let e : i + 1 - 1 ≡ i - 1 + 1 = omega arith in
+    let a : 1 + (i - 1) ≡ i = omega arith in
+    ap (λ (m : ℕ). baresFrom ws bs 1 m) e ∙ run-join (bareAt ws bs) 1 (i - 1) 1 ∙ ap (λ (x : ℕ). baresFrom ws bs 1 (i - 1) ++ baresFrom ws bs x 1) a ∙ ap (λ (z : List Bare). baresFrom ws bs 1 (i - 1) ++ z) (unfold run in refl)
+
+bare-len : (ws bs : List ℕ) (i : ℕ) → bareAt ws bs i .len ≡ lenOf ws i
+unfolding bareAt
+bare-len ws bs i = refl
+
+module _ (ws bs vs cs : List ℕ) (i j : ℕ) (s : Sweeping ws bs vs cs i j) (r : 255 * i + 255 ≤ length bs) where
+  same : bareAt vs cs i ≡ bareAt ws bs i
+  same = s .ahead i (omega arith) r
+
+  same-len : lenOf vs i ≡ bareAt ws bs i .len
+  same-len = sym (bare-len vs cs i) ∙ ap (λ (x : Bare). x .len) same
+
+  grown : baresFrom ws bs 1 (i + 1 - 1) ≡ baresFrom ws bs 1 (i - 1) ++ bareAt ws bs i ∷ []
+  grown = run-more ws bs i (omega (arith, s .least, s .most))
+
+  -- a slot without a label is passed
+  sweep-gap : lenOf vs i ≡ 0 → Sweeping ws bs vs cs (i + 1) j
+  sweep-gap e =
+      let x = bareAt ws bs i in
+      record {
+        lenW = s .lenW;
+        lenB = s .lenB;
+        head = s .head;
+        least = s .least;
+        most = omega (arith, s .most);
+        root = s .root;
+        ahead = λ y h q. s .ahead y (omega arith) q;
+        slots =
+            s .slots
+            ∙ sym (append-nil (solid (baresFrom ws bs 1 (i - 1))))
+            ∙ cc (ap solid grown, solid-append (baresFrom ws bs 1 (i - 1)) (x ∷ []), solid-gap x (sym same-len ∙ e));
+      }
+
+  -- any other stands in the next place
+  sweep-kept : (us ds : List ℕ) → (lenOf vs i ≡ 0 → ⊥) → Filled vs cs us ds j (bareAt vs cs i) → Sweeping ws bs us ds (i + 1) (j + 1)
+  sweep-kept us ds ne f =
+      let x = bareAt ws bs i in
+      let lo = s .least in
+      let hi = s .most in
+      let lc = s .lenB in
+      let front : baresFrom us ds 1 (j - 1) ≡ baresFrom vs cs 1 (j - 1) =
+      run-ext (bareAt us ds) (bareAt vs cs) 1 1 (j - 1) (λ y h. f .others (1 + y) (λ q. omega arith) (omega arith)) in
+      record {
+        lenW = f .lenW ∙ s .lenW;
+        lenB = f .lenB ∙ s .lenB;
+        head = λ y h. f .head y h ∙ s .head y h;
+        least = omega arith;
+        most = omega arith;
+        root = f .others 0 (λ q. omega arith) (omega arith) ∙ s .root;
+        ahead = λ y h q. f .others y (λ z. omega arith) (omega arith) ∙ s .ahead y (omega arith) q;
+        slots =
+            run-more us ds j lo
+            ∙ cc (front, s .slots, f .slot, same, ap solid grown, solid-append (baresFrom ws bs 1 (i - 1)) (x ∷ []), solid-kept x (λ q. ne (same-len ∙ q)));
+      }
+
+  -- a turn of the sweep
+  pub sweep-on : (us ds : List ℕ) (k : ℕ) → Swept vs cs us ds i j k → Sweeping ws bs us ds (i + 1) k
+  sweep-on us ds k (gone e q u d) =
+      rw (q, u, d) (sweep-gap e)
+  sweep-on us ds k (kept ne q f) = rw q (sweep-kept us ds ne f)
+
+pub sweep-done : {ws bs vs cs : List ℕ} {i j n : ℕ} → i ≡ n → Sweeping ws bs vs cs i j → Closed ws bs vs cs n j
+sweep-done {ws} {bs} {vs} {cs} {i} {j} {n} e s =
+    let c : Closed ws bs vs cs i j = record { lenW = s .lenW; lenB = s .lenB; head = s .head; least = s .least; most = s .most; root = s .root; slots = s .slots } in
+    subst (λ (x : ℕ). Closed ws bs vs cs x j) e c
+
+-- a slot that stays where it is
+pub stays : (ws bs : List ℕ) (i j : ℕ) → j ≡ i → Filled ws bs ws bs j (bareAt ws bs i)
+stays ws bs i j e = record { lenW = refl; lenB = refl; head = λ x h. refl; slot = ap (bareAt ws bs) e; others = λ x ne r. refl }

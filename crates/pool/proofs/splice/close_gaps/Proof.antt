@@ -1,0 +1,51 @@
+-- `pool::splice::close_gaps` meets its contract: the slots passed stand close together. Assumes nothing.
+use Prim.Native.Nat.{_≤_, _-_}
+use native.Mathlib.Omega.{arith}
+use Rattle.pool.proofs.Gaps.{Sweeping, sweep-none, sweep-on, sweep-done}
+use Rattle.pool.proofs.splice.close_gaps.Statement.{statement}
+use Rattle.pool.proofs.splice.close_gaps.Tie as tie
+
+abbrev Inv-loop : tie.InvT-loop
+Inv-loop labels₀ words₀ n j₀ i₀ labels words j i = (i ≤ n) × Sweeping words₀ labels₀ words labels i j
+
+abbrev μ-loop : tie.MeasureT-loop
+μ-loop labels₀ words₀ n j₀ i₀ labels words j i = n - i
+
+loop-holds : tie.Need-loop-holds Inv-loop μ-loop
+loop-holds c = (omega arith, sweep-none _ _)
+
+sweep-slot-requires : tie.Need-sweep-slot-requires Inv-loop μ-loop
+sweep-slot-requires c κs = omega (arith, c .before .before .before .loop .inv .1 .most, c .before .before .before .loop .inv .1 .lenW, c .before .before .before .loop .inv .1 .lenB)
+
+add-i : tie.Need-add-i Inv-loop μ-loop
+add-i c = omega arith
+
+loop-less : tie.Need-loop-less Inv-loop μ-loop
+loop-less c = omega arith
+
+loop-again : tie.Need-loop-again Inv-loop μ-loop
+loop-again c = (omega arith, sweep-on _ _ _ _ _ _ (c .before .before .before .before .before .before .before .before .loop .inv .1) (omega (arith, c .before .before .before .before .before .before .before .before .loop .inv .1 .lenB)) _ _ _ (c .before .before .before .before .sweep-slot .ensures))
+
+same-length : tie.Need-same-length Inv-loop μ-loop
+same-length c = c .before .loop .inv .1 .lenB
+
+same-length-2 : tie.Need-same-length-2 Inv-loop μ-loop
+same-length-2 c = c .before .loop .inv .1 .lenW
+
+returns : tie.Need-returns Inv-loop μ-loop
+returns c = sweep-done (omega arith) (c .before .loop .inv .1)
+
+pub close-gaps-spec : {M : Type 1} → statement M
+close-gaps-spec =
+    tie.close
+    (tie.spec
+    Inv-loop
+    μ-loop
+    loop-holds
+    sweep-slot-requires
+    add-i
+    loop-less
+    loop-again
+    same-length
+    same-length-2
+    returns)
