@@ -267,7 +267,7 @@ pub fn clear(labels: &mut [u8], words: &mut [u32]) -> Emptied
 }
 
 // How many of the first n slots have a number.
-fn keys_in(words: &[u32], n: usize) -> usize
+pub fn keys_in(words: &[u32], n: usize) -> usize
     requires { ⌜ (6 * n + 8 ≤ length (now words)) × (n ≤ 16384) × ((i : ℕ) → i < n → hasOf (now words) i ≤ 1) ⌝ }
     ensures { λ r. ⌜ r ≡ hasSum (now (words .entry)) n ⌝ }
 {

@@ -1,0 +1,4 @@
+pub mod Meets
+pub mod Places
+pub mod Seek
+pub mod Answers

@@ -1,0 +1,252 @@
+// The search: one descent through the pool, and the three calls over it. Nothing is written, no key is copied.
+ghost use mathlib.Core.Path.{_≡_};
+ghost use Prim.Native.Nat.{_+_, _*_, _≤_, _<_};
+ghost use lib.ListN.{length, drop};
+ghost use Rattle.tree.specs.Key.{keyMax};
+ghost use Rattle.tree.specs.Tree.{Tree};
+ghost use Rattle.tree.specs.Search.{met};
+ghost use Rattle.tree.specs.Told.{gotTold, prefixedTold, sharingTold};
+ghost use Rattle.tree.specs.Calls.{numberTold, getCall, longestCall, sharedCall};
+ghost use mathlib.Core.Option.{some};
+ghost use Rattle.pool.specs.Layout.{labelOf, numAt};
+ghost use Rattle.pool.specs.Pool.{poolTree};
+ghost use Rattle.pool.specs.Rule.{PoolRule};
+ghost use Rattle.search.specs.Landing.{descentOf, meetingOf, bestOf, Lands, InPool};
+use label::First;
+use tree::Got;
+use tree::Prefixed;
+use tree::RuleNo;
+use tree::Sharing;
+use tree::Slot;
+
+// How what is left of a key meets the label of a node.
+pub enum Meeting {
+    // The key's next byte is below the label's first.
+    Before,
+    // It is above it.
+    Past,
+    // The key is the label.
+    Same,
+    // The key ends inside the label, behind so many of its bytes.
+    Inside(usize),
+    // The label, of so many bytes, ends inside the key.
+    Through(usize),
+    // They part behind so many bytes.
+    Fork(usize),
+}
+
+// Where a descent ends.
+pub enum Stop {
+    // The key is empty: at the root.
+    Root,
+    // No node begins with the key's next byte: a new one would stand at the slot.
+    Gap,
+    // At the slot, whose label is the rest of the key.
+    Same,
+    // Inside the slot's label, behind so many of its bytes, where the key ends.
+    Inside(usize),
+    // There too, where they part.
+    Fork(usize),
+}
+
+// The longest stored prefix so far: its length and number.
+pub enum Best {
+    None,
+    At(usize, RuleNo),
+}
+
+// Where a search came to: the slot, the end of its siblings, their parent, the bytes matched above the slot's label.
+pub struct Descent {
+    pub stop: Stop,
+    pub at: Slot,
+    pub end: Slot,
+    pub parent: Slot,
+    pub above: usize,
+    pub best: Best,
+}
+
+// How the key from p on meets the label of slot c.
+fn meet(labels: &[u8], words: &[u32], c: Slot, key: &[u8], p: usize) -> Meeting
+    requires { ⌜ InPool (now words) (now labels) (c .0) × (p < length (now key)) ⌝ }
+    ensures { λ r. ⌜ r ≡ meetingOf (drop p (now (key .entry))) (labelOf (now (words .entry)) (now (labels .entry)) (c .0)) ⌝ }
+{
+    match label::cmp_first_item(key[p], pool::first_at(labels, c)) {
+        First::Below => return Meeting::Before,
+        First::Above => return Meeting::Past,
+        First::Same => {}
+    }
+    let label = pool::label_at(labels, words, c);
+    let rest = &key[p..];
+    let m = label::shared_length(rest, label);
+    if m == label.len() {
+        if m == rest.len() {
+            return Meeting::Same;
+        }
+        return Meeting::Through(m);
+    }
+    if m == rest.len() {
+        return Meeting::Inside(m);
+    }
+    Meeting::Fork(m)
+}
+
+// The longest stored prefix, once the label of slot c has matched whole and n bytes with it.
+fn best_at(words: &[u32], c: Slot, n: usize, best: Best) -> Best
+    requires { ⌜ 6 * c .0 + 14 ≤ length (now words) ⌝ }
+    ensures { λ r. ⌜ bestOf r ≡ met n (numAt (now (words .entry)) (c .0)) (bestOf best) ⌝ }
+{
+    if pool::has_at(words, c) == 0 {
+        return best;
+    }
+    Best::At(n, pool::number_at(words, c))
+}
+
+// A descent by its parts, the places as numbers.
+fn landed(stop: Stop, at: usize, end: usize, parent: usize, above: usize, best: Best) -> Descent
+    ensures { λ r. ⌜ r ≡ descentOf stop at end parent above best ⌝ }
+{
+    Descent {
+        stop,
+        at: Slot(at),
+        end: Slot(end),
+        parent: Slot(parent),
+        above,
+        best,
+    }
+}
+
+// The search, as all calls make it. Counterparts: `get`, `longest_common_prefix_len`, the way down of `insert`, `remove`.
+pub fn descend(labels: &[u8], words: &[u32], key: &[u8]) -> Descent
+    requires { ⌜ PoolRule (now words) (now labels) × (length (now key) ≤ keyMax) ⌝ }
+    ensures { λ r. ⌜ ((t : Tree) → poolTree (now (words .entry)) (now (labels .entry)) ≡ some t → Lands t (now (key .entry)) r) ⌝ }
+{
+    let n = pool::nodes_in(words);
+    let mut best = best_at(words, Slot(0), 0, Best::None);
+    if key.len() == 0 {
+        return landed(Stop::Root, 0, n, 0, 0, best);
+    }
+    let mut parent: usize = 0;
+    let mut c: usize = 1;
+    let mut end = n;
+    let mut p: usize = 0;
+    while c < end {
+        match meet(labels, words, Slot(c), key, p) {
+            Meeting::Before => return landed(Stop::Gap, c, end, parent, p, best),
+            Meeting::Past => c += pool::span_at(words, Slot(c)),
+            Meeting::Same => {
+                best = best_at(words, Slot(c), key.len(), best);
+                return landed(Stop::Same, c, end, parent, p, best);
+            }
+            Meeting::Inside(m) => return landed(Stop::Inside(m), c, end, parent, p, best),
+            Meeting::Fork(m) => return landed(Stop::Fork(m), c, end, parent, p, best),
+            Meeting::Through(m) => {
+                best = best_at(words, Slot(c), p + m, best);
+                parent = c;
+                end = c + pool::span_at(words, Slot(c));
+                p += m;
+                c += 1;
+            }
+        }
+    }
+    landed(Stop::Gap, c, end, parent, p, best)
+}
+
+// The number at a slot.
+fn number_in(words: &[u32], at: Slot) -> Got
+    requires { ⌜ 6 * at .0 + 14 ≤ length (now words) ⌝ }
+    ensures { λ r. ⌜ gotTold r ≡ numberTold (numAt (now (words .entry)) (at .0)) ⌝ }
+{
+    if pool::has_at(words, at) == 0 {
+        return Got::NotFound;
+    }
+    Got::Number(pool::number_at(words, at))
+}
+
+// `get` in a pool that has been tested, of a key that is not too long.
+pub fn get_in(labels: &[u8], words: &[u32], key: &[u8]) -> Got
+    requires { ⌜ PoolRule (now words) (now labels) × (length (now key) ≤ keyMax) ⌝ }
+    ensures { λ r. ⌜ gotTold r ≡ getCall (poolTree (now (words .entry)) (now (labels .entry))) (now (key .entry)) ⌝ }
+{
+    let d = descend(labels, words, key);
+    let at = d.at;
+    let stop = d.stop;
+    match stop {
+        Stop::Root => number_in(words, at),
+        Stop::Gap => Got::NotFound,
+        Stop::Same => number_in(words, at),
+        Stop::Inside(_) => Got::NotFound,
+        Stop::Fork(_) => Got::NotFound,
+    }
+}
+
+// The number at exactly the key.
+pub fn get(labels: &[u8], words: &[u32], key: &[u8]) -> Got
+    ensures { λ r. ⌜ gotTold r ≡ getCall (poolTree (now (words .entry)) (now (labels .entry))) (now (key .entry)) ⌝ }
+{
+    if !pool::is_pool(labels, words) {
+        return Got::NotPool;
+    }
+    if key.len() > 4096 {
+        return Got::TooLong;
+    }
+    get_in(labels, words, key)
+}
+
+// `longest` in a pool that has been tested, of a query that is not too long.
+pub fn longest_in(labels: &[u8], words: &[u32], query: &[u8]) -> Prefixed
+    requires { ⌜ PoolRule (now words) (now labels) × (length (now query) ≤ keyMax) ⌝ }
+    ensures { λ r. ⌜ prefixedTold r ≡ longestCall (poolTree (now (words .entry)) (now (labels .entry))) (now (query .entry)) ⌝ }
+{
+    let d = descend(labels, words, query);
+    let best = d.best;
+    match best {
+        Best::None => Prefixed::NotFound,
+        Best::At(n, v) => Prefixed::Longest(n, v),
+    }
+}
+
+// Length and number of the longest stored key that starts the query.
+pub fn longest(labels: &[u8], words: &[u32], query: &[u8]) -> Prefixed
+    ensures { λ r. ⌜ prefixedTold r ≡ longestCall (poolTree (now (words .entry)) (now (labels .entry))) (now (query .entry)) ⌝ }
+{
+    if !pool::is_pool(labels, words) {
+        return Prefixed::NotPool;
+    }
+    if query.len() > 4096 {
+        return Prefixed::TooLong;
+    }
+    longest_in(labels, words, query)
+}
+
+// `shared` in a pool that has been tested, of a query that is not too long.
+pub fn shared_in(labels: &[u8], words: &[u32], query: &[u8]) -> Sharing
+    requires { ⌜ PoolRule (now words) (now labels) × (length (now query) ≤ keyMax) ⌝ }
+    ensures { λ r. ⌜ sharingTold r ≡ sharedCall (poolTree (now (words .entry)) (now (labels .entry))) (now (query .entry)) ⌝ }
+{
+    let d = descend(labels, words, query);
+    let above = d.above;
+    let stop = d.stop;
+    match stop {
+        Stop::Root => Sharing::Length(query.len()),
+        Stop::Gap => Sharing::Length(above),
+        Stop::Same => Sharing::Length(query.len()),
+        Stop::Inside(_) => Sharing::Length(query.len()),
+        Stop::Fork(m) => {
+            let n = above + m;
+            Sharing::Length(n)
+        }
+    }
+}
+
+// The greatest number of leading bytes that the query shares with any stored key.
+pub fn shared(labels: &[u8], words: &[u32], query: &[u8]) -> Sharing
+    ensures { λ r. ⌜ sharingTold r ≡ sharedCall (poolTree (now (words .entry)) (now (labels .entry))) (now (query .entry)) ⌝ }
+{
+    if !pool::is_pool(labels, words) {
+        return Sharing::NotPool;
+    }
+    if query.len() > 4096 {
+        return Sharing::TooLong;
+    }
+    shared_in(labels, words, query)
+}

@@ -1,0 +1,3 @@
+pub mod Post
+pub mod Parts
+pub mod Runs

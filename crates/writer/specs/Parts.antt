@@ -1,0 +1,23 @@
+-- What the writer's parts write and count, by the words and label bytes of a pool.
+use mathlib.Core.List.{List, [], _∷_, _++_}
+use mathlib.Core.Bool.{Bool}
+use Prim.Native.Nat.{ℕ, zero, suc, _+_, _/_, _%_}
+use lib.Dec.{ltb}
+use Rattle.tree.specs.Image.{numbersW}
+use Rattle.flags.specs.Flags.{flagByte}
+use Rattle.pool.specs.Layout.{lenOf, hasOf, spanOf, labelOf, numAt}
+
+-- The record of slot c: flags, label length, level high byte, level low byte, label
+unfoldable pub recordAt : (ws bs : List ℕ) (c level : ℕ) (sibling : Bool) → List ℕ
+recordAt ws bs c level sibling =
+    flagByte (ltb 0 (hasOf ws c)) (ltb 1 (spanOf ws c)) sibling ∷ lenOf ws c ∷ (level / 256) ∷ (level % 256) ∷ labelOf ws bs c
+
+-- How many bytes the records of the first n slots have
+unfoldable pub recordSum : List ℕ → ℕ → ℕ
+recordSum ws zero = 0
+recordSum ws (suc n) = recordSum ws n + (4 + lenOf ws n)
+
+-- The numbers of the first n slots
+unfoldable pub numbersIn : List ℕ → ℕ → List ℕ
+numbersIn ws zero = []
+numbersIn ws (suc n) = numbersIn ws n ++ numbersW (numAt ws n) []

@@ -1,0 +1,185 @@
+// The image of the tree that a pool holds: tree bytes into one output, stored numbers into another. Counterpart:
+// `Node::serialize` of the Rust, whose stack of levels is a cycle of calls here.
+ghost use mathlib.Core.Path.{_≡_};
+ghost use mathlib.Core.List.{[]};
+ghost use Prim.Native.Nat.{_+_, _*_, _≤_, max};
+ghost use lib.ListN.{length};
+ghost use lib.Seq.{sets};
+ghost use Rattle.tree.specs.Image.{numbersW};
+ghost use Rattle.tree.specs.Told.{writtenTold};
+ghost use Rattle.pool.specs.Layout.{numAt};
+ghost use Rattle.pool.specs.Pool.{poolTree};
+ghost use Rattle.writer.specs.Post.{Writes};
+ghost use Rattle.writer.specs.Parts.{recordAt, recordSum, numbersIn};
+ghost use Rattle.writer.specs.Runs.{Reads, Room, Put, RecordRoom, TreeRoom, Deepest, RunPut, TreePut};
+use tree::Level;
+use tree::Slot;
+use tree::Written;
+
+// A level is written in two bytes.
+const LEVEL_MAX: usize = 65535;
+
+// The greater of two numbers.
+fn greater(a: usize, b: usize) -> usize
+    ensures { λ r. ⌜ r ≡ max a b ⌝ }
+{
+    if a < b {
+        return b;
+    }
+    a
+}
+
+// The deepest level of the siblings in the slots from .. end and of all below them; 0 where there are none. A loop goes
+// along the siblings, and a call down to the children of each.
+fn deepest(words: &[u32], from: Slot, end: Slot, level: Level) -> Level
+    requires { ⌜ Reads (now words) (from .0) (end .0) (level .0) ⌝ }
+    ensures { λ r. ⌜ Deepest (now (words .entry)) (from .0) (end .0) (level .0) (r .0) ⌝ }
+{
+    let mut deep: usize = 0;
+    let mut c = from.0;
+    while c < end.0 {
+        let next = c + pool::span_at(words, Slot(c));
+        let below = deepest(words, Slot(c + 1), Slot(next), Level(level.0 + 1));
+        deep = greater(deep, greater(level.0, below.0));
+        c = next;
+    }
+    Level(deep)
+}
+
+// How many bytes the image of n slots has: each record is four bytes and its label.
+fn image_length(words: &[u32], n: usize) -> usize
+    requires { ⌜ (6 * n + 8 ≤ length (now words)) × (n ≤ 16384) ⌝ }
+    ensures { λ r. ⌜ r ≡ recordSum (now (words .entry)) n ⌝ }
+{
+    let mut sum: usize = 0;
+    let mut i: usize = 0;
+    while i < n {
+        sum += 4 + pool::len_at(words, Slot(i));
+        i += 1;
+    }
+    sum
+}
+
+// Writes the record of one slot, and gives the place behind it. `sibling` says whether a younger sibling follows.
+// Counterpart: what `Node::serialize` pushes to its tree bytes for one node.
+fn write_record(
+    labels: &[u8],
+    words: &[u32],
+    slot: Slot,
+    level: Level,
+    sibling: bool,
+    out: &mut [u8],
+    at: usize,
+) -> usize
+    requires { ⌜ RecordRoom (now words) (now labels) (slot .0) (level .0) (now out) at ⌝ }
+    ensures { λ r. ⌜ Put (recordAt (now (words .entry)) (now (labels .entry)) (slot .0) (level .0) sibling) (now (out .entry)) at (now (out .exit)) r ⌝ }
+{
+    let n = pool::len_at(words, slot);
+    let number = 0 < pool::has_at(words, slot);
+    let child = 1 < pool::span_at(words, slot);
+    out[at] = flags::flag_byte(number, child, sibling);
+    out[at + 1] = n as u8;
+    out[at + 2] = (level.0 / 256) as u8;
+    out[at + 3] = (level.0 % 256) as u8;
+    let to = at + 4;
+    let next = to + n;
+    let from = 255 * slot.0;
+    let till = from + n;
+    label::copy(&mut out[to..next], &labels[from..till]);
+    next
+}
+
+// Writes the siblings in the slots from .. end with all below them, and gives the place behind them. A loop goes along
+// the siblings, and a call down to the children of each. Counterpart: the loop of `Node::serialize` over its stack.
+fn write_siblings(
+    labels: &[u8],
+    words: &[u32],
+    from: Slot,
+    end: Slot,
+    level: Level,
+    out: &mut [u8],
+    at: usize,
+) -> usize
+    requires { ⌜ Room (now words) (now labels) (from .0) (end .0) (level .0) (now out) at ⌝ }
+    ensures { λ r. ⌜ RunPut (now (words .entry)) (now (labels .entry)) (from .0) (end .0) (level .0) (now (out .entry)) at (now (out .exit)) r ⌝ }
+{
+    let mut c = from.0;
+    let mut place = at;
+    while c < end.0 {
+        let next = c + pool::span_at(words, Slot(c));
+        let kids = write_record(labels, words, Slot(c), level, next < end.0, out, place);
+        place = write_siblings(
+            labels,
+            words,
+            Slot(c + 1),
+            Slot(next),
+            Level(level.0 + 1),
+            out,
+            kids,
+        );
+        c = next;
+    }
+    place
+}
+
+// Writes the whole tree to the front of the output: the root at level 0, which has no sibling, and its children.
+fn write_tree(labels: &[u8], words: &[u32], out: &mut [u8])
+    requires { ⌜ TreeRoom (now words) (now labels) (now out) ⌝ }
+    ensures { λ _. ⌜ TreePut (now (words .entry)) (now (labels .entry)) (now (out .entry)) (now (out .exit)) ⌝ }
+{
+    let n = pool::nodes_in(words);
+    let kids = write_record(labels, words, Slot(0), Level(0), false, out, 0);
+    write_siblings(labels, words, Slot(1), Slot(n), Level(1), out, kids);
+}
+
+// Writes the number of one slot, if it has one, and gives the place behind it. Counterpart: what `Node::serialize` pushes
+// to its values for one node.
+fn write_number(words: &[u32], slot: Slot, out: &mut [u32], at: usize) -> usize
+    requires { ⌜ (6 * slot .0 + 14 ≤ length (now words)) × (at + length (numbersW (numAt (now words) (slot .0)) []) ≤ length (now out)) ⌝ }
+    ensures { λ r. ⌜ Put (numbersW (numAt (now (words .entry)) (slot .0)) []) (now (out .entry)) at (now (out .exit)) r ⌝ }
+{
+    if pool::has_at(words, slot) == 0 {
+        return at;
+    }
+    out[at] = pool::number_at(words, slot).0;
+    at + 1
+}
+
+// Writes the numbers of n slots to the front of the output.
+fn write_numbers(words: &[u32], n: usize, out: &mut [u32])
+    requires { ⌜ (6 * n + 8 ≤ length (now words)) × (length (numbersIn (now words) n) ≤ length (now out)) ⌝ }
+    ensures { λ _. ⌜ now (out .exit) ≡ sets (now (out .entry)) 0 (numbersIn (now (words .entry)) n) ⌝ }
+{
+    let mut at: usize = 0;
+    let mut i: usize = 0;
+    while i < n {
+        at = write_number(words, Slot(i), out, at);
+        i += 1;
+    }
+}
+
+// Writes the image of the pool's tree: each output has its part at the front, and with any refusal both stay as they
+// were. Both lengths are known and tested before anything is written. Counterpart: `Node::serialize`.
+pub fn write(labels: &[u8], words: &[u32], tree: &mut [u8], numbers: &mut [u32]) -> Written
+    ensures { λ r. ⌜ Writes (poolTree (now (words .entry)) (now (labels .entry))) (writtenTold r) (now (tree .entry)) (now (numbers .entry)) (now (tree .exit)) (now (numbers .exit)) ⌝ }
+{
+    if !pool::is_pool(labels, words) {
+        return Written::NotPool;
+    }
+    let n = pool::nodes_in(words);
+    let deep = deepest(words, Slot(1), Slot(n), Level(1));
+    if deep.0 > LEVEL_MAX {
+        return Written::LevelOver;
+    }
+    let bytes = image_length(words, n);
+    let keys = pool::keys_in(words, n);
+    if tree.len() < bytes {
+        return Written::Short(bytes, keys);
+    }
+    if numbers.len() < keys {
+        return Written::Short(bytes, keys);
+    }
+    write_tree(labels, words, tree);
+    write_numbers(words, n, numbers);
+    Written::Lengths(bytes, keys)
+}
