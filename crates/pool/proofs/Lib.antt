@@ -7,6 +7,7 @@ pub mod Stands
 pub mod Held
 pub mod Sums
 pub mod Answers
+pub mod Decided
 pub mod Reach
 pub mod Bares
 pub mod Slots

@@ -2,3 +2,4 @@ pub mod Meets
 pub mod Places
 pub mod Seek
 pub mod Answers
+pub mod Decided

@@ -2,6 +2,7 @@ pub mod Order
 pub mod Parts
 pub mod Common
 pub mod Judge
+pub mod OneAnswer
 pub mod Find
 pub mod InsertFind
 pub mod Looks
