@@ -12,3 +12,4 @@ pub mod Reach
 pub mod Bares
 pub mod Slots
 pub mod Gaps
+pub mod Puts

@@ -5,3 +5,4 @@ pub mod Rule
 pub mod Post
 pub mod Fields
 pub mod Splice
+pub mod Put

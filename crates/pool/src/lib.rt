@@ -291,4 +291,5 @@ pub fn counts(labels: &[u8], words: &[u32]) -> Counted
     Counted::Counts(keys_in(words, n), n)
 }
 
+pub mod put;
 pub mod splice;
