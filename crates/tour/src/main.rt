@@ -1,0 +1,240 @@
+// Document 01's images and searches, run: each line begins with the number of the answer.
+use libc::STDOUT_FILENO;
+use tree::Counted;
+use tree::Got;
+use tree::Loaded;
+use tree::Prefixed;
+use tree::Sharing;
+use tree::Written;
+
+fn text(s: &[u8]) {
+    io::write_all(STDOUT_FILENO, s);
+}
+
+// A number behind a space.
+fn value(n: u64) {
+    text(b" ");
+    io::print_decimal(STDOUT_FILENO, n);
+}
+
+fn number(n: u32) {
+    io::print_decimal(STDOUT_FILENO, n as u64);
+}
+
+fn line_end() {
+    text(b"\n");
+}
+
+fn show_counts(labels: &[u8], words: &[u32]) {
+    let answer = pool::counts(labels, words);
+    text(b"counts: ");
+    number(answer.number());
+    if let Counted::Counts(keys, nodes) = answer {
+        value(keys as u64);
+        value(nodes as u64);
+    }
+    line_end();
+}
+
+fn show_get(labels: &[u8], words: &[u32], key: &[u8]) {
+    let answer = search::get(labels, words, key);
+    text(b"get ");
+    text(key);
+    text(b": ");
+    number(answer.number());
+    if let Got::Number(v) = answer {
+        value(v.0 as u64);
+    }
+    line_end();
+}
+
+fn show_longest(labels: &[u8], words: &[u32], query: &[u8]) {
+    let answer = search::longest(labels, words, query);
+    text(b"longest ");
+    text(query);
+    text(b": ");
+    number(answer.number());
+    if let Prefixed::Longest(n, v) = answer {
+        value(n as u64);
+        value(v.0 as u64);
+    }
+    line_end();
+}
+
+fn show_shared(labels: &[u8], words: &[u32], query: &[u8]) {
+    let answer = search::shared(labels, words, query);
+    text(b"shared ");
+    text(query);
+    text(b": ");
+    number(answer.number());
+    if let Sharing::Length(n) = answer {
+        value(n as u64);
+    }
+    line_end();
+}
+
+// The offset that a refusal of the reader has, or none.
+fn show_offset(answer: Loaded) {
+    match answer {
+        Loaded::Done | Loaded::NotPool | Loaded::PathTooLong | Loaded::NoRoom => {}
+        Loaded::CutShort(at) => value(at as u64),
+        Loaded::FlagByte(at) => value(at as u64),
+        Loaded::WrongLevel(at) => value(at as u64),
+        Loaded::LabelLength(at) => value(at as u64),
+        Loaded::SiblingOrder(at) => value(at as u64),
+        Loaded::IdleNode(at) => value(at as u64),
+        Loaded::NumberCount(at) => value(at as u64),
+        Loaded::BytesLeft(at) => value(at as u64),
+    }
+}
+
+fn read_in(labels: &mut [u8], words: &mut [u32], image: &[u8], numbers: &[u32]) {
+    let answer = reader::read(labels, words, image, numbers);
+    text(b"read: ");
+    number(answer.number());
+    show_offset(answer);
+    line_end();
+}
+
+// A byte as two hex digits.
+fn show_byte(b: u8) {
+    io::print_hex(STDOUT_FILENO, b as u64, 2);
+}
+
+fn show_bytes(bytes: &[u8]) {
+    let mut i: usize = 0;
+    while i < bytes.len() {
+        show_byte(bytes[i]);
+        i += 1;
+    }
+}
+
+fn show_number(n: u32) {
+    value(n as u64);
+}
+
+fn show_numbers(numbers: &[u32]) {
+    let mut i: usize = 0;
+    while i < numbers.len() {
+        show_number(numbers[i]);
+        i += 1;
+    }
+}
+
+// What the writer answered, with what it wrote or what it lacks.
+fn show_written(answer: Written, image: &[u8], numbers: &[u32]) {
+    text(b"write: ");
+    number(answer.number());
+    match answer {
+        Written::Lengths(n, k) => {
+            if n <= image.len() {
+                text(b" ");
+                show_bytes(&image[0..n]);
+            }
+            if k <= numbers.len() {
+                show_numbers(&numbers[0..k]);
+            }
+        }
+        Written::Short(n, k) => {
+            value(n as u64);
+            value(k as u64);
+        }
+        Written::NotPool | Written::LevelOver => {}
+    }
+    line_end();
+}
+
+fn show_image(labels: &[u8], words: &[u32]) {
+    let mut image = [0u8; 64];
+    let mut numbers = [0u32; 8];
+    let answer = writer::write(labels, words, &mut image, &mut numbers);
+    show_written(answer, &image, &numbers);
+}
+
+// An output that is one byte too short says what is needed.
+fn show_short(labels: &[u8], words: &[u32]) {
+    let mut image = [0u8; 18];
+    let mut numbers = [0u32; 8];
+    let answer = writer::write(labels, words, &mut image, &mut numbers);
+    show_written(answer, &image, &numbers);
+}
+
+// Reads so many bytes and numbers of the image of ab = 1 and ac = 2, which has 19 and 2, and one of each behind them.
+fn read_part(labels: &mut [u8], words: &mut [u32], n: usize, k: usize) {
+    let image: [u8; 20] = [
+        12,
+        0,
+        0,
+        0,
+        12,
+        1,
+        0,
+        1,
+        97,
+        51,
+        1,
+        0,
+        2,
+        98,
+        3,
+        1,
+        0,
+        2,
+        99,
+        0,
+    ];
+    let numbers: [u32; 3] = [1, 2, 3];
+    if n <= 20 {
+        if k <= 3 {
+            read_in(labels, words, &image[0..n], &numbers[0..k]);
+        }
+    }
+}
+
+// The tree of ab = 1 and ac = 2.
+fn show_two(labels: &[u8], words: &[u32]) {
+    show_counts(labels, words);
+    show_get(labels, words, b"ab");
+    show_get(labels, words, b"ac");
+    show_get(labels, words, b"a");
+    show_image(labels, words);
+    show_short(labels, words);
+}
+
+// Reads the image of a = 1 and abc = 2.
+fn read_prefixes(labels: &mut [u8], words: &mut [u32]) {
+    let image: [u8; 15] = [12, 0, 0, 0, 15, 1, 0, 1, 97, 3, 2, 0, 2, 98, 99];
+    let numbers: [u32; 2] = [1, 2];
+    read_in(labels, words, &image, &numbers);
+}
+
+// The queries abd and b there.
+fn show_prefixes(labels: &[u8], words: &[u32]) {
+    show_longest(labels, words, b"abd");
+    show_shared(labels, words, b"abd");
+    show_longest(labels, words, b"b");
+    show_shared(labels, words, b"b");
+}
+
+fn main() {
+    let mut labels = [0u8; 32640];
+    let mut words = [0u32; 776];
+    show_counts(&labels, &words);
+    number(pool::make(&mut labels, &mut words).number());
+    line_end();
+    show_counts(&labels, &words);
+    show_image(&labels, &words);
+    read_part(&mut labels, &mut words, 0, 0);
+    read_part(&mut labels, &mut words, 19, 2);
+    show_two(&labels, &words);
+    read_part(&mut labels, &mut words, 18, 2);
+    read_part(&mut labels, &mut words, 20, 2);
+    read_part(&mut labels, &mut words, 19, 3);
+    read_part(&mut labels, &mut words, 19, 1);
+    show_counts(&labels, &words);
+    read_prefixes(&mut labels, &mut words);
+    show_prefixes(&labels, &words);
+    number(pool::clear(&mut labels, &mut words).number());
+    line_end();
+    show_counts(&labels, &words);
+}
