@@ -93,12 +93,19 @@ fn bench(keys: usize, slots: usize) {
     let with_test = median(few, || { i += 7; black_box(pool.get(&names[i % keys])); });
     let mut j = 0;
     let rust_get = median(20_000, || { j += 7; black_box(map.get(&names[j % keys])); });
-    row("get", with_test, Some(rust_get));
-    // A thousand lookups of a key follow one test; the test's share is taken off.
+    row("get, of one key after another", with_test, Some(rust_get));
+    // A thousand lookups of one key follow one test, whose share is taken off; the Rust looks one key up as often.
     let mut k = 0;
     let many = median(few, || { k += 7; black_box(pool.gets(&names[k % keys], 1000)); });
     let one = median(few, || { k += 7; black_box(pool.gets(&names[k % keys], 0)); });
-    row("get without the test", (many - one) / 1000.0, Some(rust_get));
+    let mut l = 0;
+    let rust_many = median(few, || {
+        l += 7;
+        for _ in 0..1000 {
+            black_box(map.get(black_box(&names[l % keys])));
+        }
+    });
+    row("get without the test, of one key again and again", (many - one) / 1000.0, Some(rust_many / 1000.0));
     let (mut out, mut numbers) = (vec![0u8; tree.len()], vec![0u32; made.numbers.len()]);
     let write = median(few, || { black_box(pool.write(&mut out, &mut numbers)); });
     row("write", write, Some(median(few, || { black_box(to_image(&map)); })));
