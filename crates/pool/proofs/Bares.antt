@@ -43,11 +43,11 @@ node-bares ws bs s b l w kids rest c e =
     let p = run-parts (bareAt ws bs) c (nodeBare s b l w) (baresF (s + suc (length l)) kids) (baresF s rest) (rw (m, n) e) in
     record { slot = p .slot; below = rw m at (p .below); beside = rw (m, n) at (p .beside) }
 
-start-is : (ws bs : List ℕ) (c : ℕ) (x : Bare) → bareAt ws bs c ≡ x → startOf ws c ≡ x .start
+pub start-is : (ws bs : List ℕ) (c : ℕ) (x : Bare) → bareAt ws bs c ≡ x → startOf ws c ≡ x .start
 unfolding bareAt
 start-is ws bs c x e = ap (λ (y : Bare). y .start) e
 
-len-is : (ws bs : List ℕ) (c : ℕ) (x : Bare) → bareAt ws bs c ≡ x → lenOf ws c ≡ x .len
+pub len-is : (ws bs : List ℕ) (c : ℕ) (x : Bare) → bareAt ws bs c ≡ x → lenOf ws c ≡ x .len
 unfolding bareAt
 len-is ws bs c x e = ap (λ (y : Bare). y .len) e
 
@@ -179,7 +179,7 @@ bare-of : (ws bs : List ℕ) (c : ℕ) (r : Rec) → recAt ws bs c ≡ r → bar
 unfolding recAt bareAt
 bare-of ws bs c r e = λ i. record { start = e i .start; len = e i .len; has = e i .has; num = e i .num; label = e i .label }
 
-stands-bares : (ws bs : List ℕ) (s : ℕ) (f : Forest) (c : ℕ) → Stands ws bs s f c → baresFrom ws bs c (nodesF f) ≡ baresF s f
+pub stands-bares : (ws bs : List ℕ) (s : ℕ) (f : Forest) (c : ℕ) → Stands ws bs s f c → baresFrom ws bs c (nodesF f) ≡ baresF s f
 unfolding nodesF baresF
 stands-bares ws bs s nil c h = unfold run in refl
 stands-bares ws bs s (node b l w kids rest) c h =
@@ -228,7 +228,7 @@ pub record Spliced (ws bs vs cs : List ℕ) (n at was is : ℕ) : Type 0 where
   pub back : baresFrom vs cs (at + is) (n - (at + was)) ≡ baresFrom ws bs (at + was) (n - (at + was))
 
 -- a tree's bare records, with a forest in its place
-tree-around : (t : Tree) (C : Context) (f : Forest) → t .kids ≡ plug C f → baresT t ≡ rootBare (t .num) ∷ ahead C ++ (baresF (depth C) f ++ behind C)
+pub tree-around : (t : Tree) (C : Context) (f : Forest) → t .kids ≡ plug C f → baresT t ≡ rootBare (t .num) ∷ ahead C ++ (baresF (depth C) f ++ behind C)
 unfolding baresT
 tree-around t C f e = ap (λ (x : List Bare). rootBare (t .num) ∷ x) (ap (baresF 0) e ∙ bares-plug C f)
 

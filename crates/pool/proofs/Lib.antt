@@ -11,5 +11,6 @@ pub mod Decided
 pub mod Reach
 pub mod Bares
 pub mod Slots
+pub mod Cuts
 pub mod Gaps
 pub mod Puts

@@ -12,7 +12,7 @@ use borrow.Rule.Slice.PartMut.{putMid, post-is}
 use Rattle.label.specs.Runs.{MovedUp}
 use Rattle.label.proofs.Moves.{by-lt}
 use Rattle.pool.specs.Layout.{startOf, lenOf, hasOf, numberOf, labelOf, numOf, numAt}
-use Rattle.pool.specs.Splice.{Bare, bareAt, Room, Moved, numberWord, headPut, labelPut, bareOf, Filled}
+use Rattle.pool.specs.Splice.{Bare, bareAt, Relinked, Settled, Room, Moved, numberWord, headPut, labelPut, bareOf, Filled}
 
 -- m places of a list from place a on
 abbrev pub block : List ℕ → ℕ → ℕ → List ℕ
@@ -113,11 +113,11 @@ module _ (bs : List ℕ) (i : ℕ) (l : List ℕ) (fits : 255 * i + length l ≤
   front-length : length (take (255 * i) bs) ≡ 255 * i
   front-length = length-take-le (255 * i) bs (omega arith)
 
-  put-length : length (labelPut bs i l) ≡ length bs
+  pub put-length : length (labelPut bs i l) ≡ length bs
   unfolding labelPut
   put-length = simp (length-append, length-drop) (omega (arith, front-length))
 
-  put-low : (j : ℕ) → j < 255 * i → getD (labelPut bs i l) j 0 ≡ getD bs j 0
+  pub put-low : (j : ℕ) → j < 255 * i → getD (labelPut bs i l) j 0 ≡ getD bs j 0
   unfolding labelPut
   put-low j h = List·getD-append (take (255 * i) bs) (l ++ drop (255 * i + length l) bs) 0 j (omega (arith, front-length)) ∙ getD-take (255 * i) bs j 0 h
 
@@ -125,10 +125,10 @@ module _ (bs : List ℕ) (i : ℕ) (l : List ℕ) (fits : 255 * i + length l ≤
   unfolding labelPut
   put-past j = at-place (labelPut bs i l) (omega (arith, front-length)) ∙ getD-append-add (take (255 * i) bs) (l ++ drop (255 * i + length l) bs) j 0
 
-  put-mid : (j : ℕ) → j < length l → getD (labelPut bs i l) (255 * i + j) 0 ≡ getD l j 0
+  pub put-mid : (j : ℕ) → j < length l → getD (labelPut bs i l) (255 * i + j) 0 ≡ getD l j 0
   put-mid j h = put-past j ∙ List·getD-append l (drop (255 * i + length l) bs) 0 j h
 
-  put-high : (j : ℕ) → 255 * i + length l ≤ j → getD (labelPut bs i l) j 0 ≡ getD bs j 0
+  pub put-high : (j : ℕ) → 255 * i + length l ≤ j → getD (labelPut bs i l) j 0 ≡ getD bs j 0
   put-high j h =
       let k = j - (255 * i + length l) in
       at-place (labelPut bs i l) (omega arith)
@@ -199,3 +199,15 @@ module _ (ws bs : List ℕ) (at start : ℕ) (l : List ℕ) (w : Num) (inW : 6 *
 pub filled-by : (ws bs vs cs : List ℕ) (at start : ℕ) (l : List ℕ) (w : Num) → 6 * at + 14 ≤ length ws → 255 * at + 255 ≤ length bs → length l ≤ 255
     → vs ≡ headPut ws at start (length l) w → cs ≡ labelPut bs at l → Filled ws bs vs cs at (bareOf start l w)
 filled-by ws bs vs cs at start l w inW inB short v c = rw (v, c) (filled ws bs at start l w inW inB short)
+
+-- A splice settled: only word 0 and the spans have changed.
+pub settled : (ws us vs : List ℕ) (n : ℕ) → 1 ≤ length ws → us ≡ set ws 0 n → Relinked us vs n → Settled ws vs n
+settled ws us vs n h e r =
+    let word : (i o : ℕ) → o < 4 → getD vs (6 * i + (8 + o)) 0 ≡ getD ws (6 * i + (8 + o)) 0 =
+    λ i o l. r .rest (6 * i + (8 + o)) (λ k q. omega arith) ∙ ap (λ (l : List ℕ). getD l (6 * i + (8 + o)) 0) e ∙ getD-set-other ws 0 (6 * i + (8 + o)) n 0 (λ q. omega arith) in
+    record {
+      len = r .len ∙ ap length e ∙ length-set ws 0 n;
+      nodes = r .rest 0 (λ k q. omega arith) ∙ ap (λ (l : List ℕ). getD l 0 0) e ∙ getD-set-same ws 0 n 0 (omega arith);
+      spans = r .spans;
+      bares = λ bs i. bare-eq vs bs ws bs i i (word i) refl;
+    }

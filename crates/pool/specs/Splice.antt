@@ -12,7 +12,7 @@ use lib.Dec.{leb}
 use Rattle.tree.specs.Key.{Key}
 use Rattle.tree.specs.Map.{Num}
 use Rattle.tree.specs.Tree.{Forest, nil, node, Tree, keysW}
-use Rattle.pool.specs.Layout.{startOf, lenOf, hasOf, spanOf, labelOf, numAt}
+use Rattle.pool.specs.Layout.{nodesOf, startOf, lenOf, hasOf, spanOf, labelOf, numAt}
 use Rattle.pool.specs.Records.{run}
 use Rattle.pool.specs.declared.splice.Stored.{Stored}
 
@@ -60,6 +60,13 @@ pub record Relinked (ws vs : List ℕ) (n : ℕ) : Type 0 where
   pub spans : Linked vs 0 n
   pub rest : (j : ℕ) → ((i : ℕ) → j ≡ 6 * i + 12 → ⊥) → getD vs j 0 ≡ getD ws j 0
 
+-- n slots are in use, their spans are right, and every slot but for its span says what it said.
+pub record Settled (ws vs : List ℕ) (n : ℕ) : Type 0 where
+  pub len : length vs ≡ length ws
+  pub nodes : nodesOf vs ≡ n
+  pub spans : Linked vs 0 n
+  pub bares : (bs : List ℕ) (i : ℕ) → bareAt vs bs i ≡ bareAt ws bs i
+
 -- There are slots `to` .. `to` + k to move into.
 pub record Room (ws bs : List ℕ) (from to k : ℕ) : Type 0 where
   pub order : from ≤ to
@@ -94,6 +101,14 @@ labelPut bs i l = take (255 * i) bs ++ (l ++ drop (255 * i + length l) bs)
 -- What a slot with the label l and the number w says
 abbrev pub bareOf : (start : ℕ) (l : List ℕ) → Num → Bare
 bareOf start l w = record { start = start; len = length l; has = keysW w; num = w; label = l }
+
+-- The two parts of a node whose label is cut behind m bytes: the upper one, with a number of its own or none, and the lower
+-- one, which keeps the node's number.
+abbrev pub frontOf : (m : ℕ) → Num → Bare → Bare
+frontOf m w x = bareOf (x .start) (take m (x .label)) w
+
+abbrev pub backOf : (m : ℕ) → Bare → Bare
+backOf m x = bareOf (x .start + m) (drop m (x .label)) (x .num)
 
 -- Slot `at` says x, and every other slot what it said.
 pub record Filled (ws bs vs cs : List ℕ) (at : ℕ) (x : Bare) : Type 0 where

@@ -1,10 +1,11 @@
 // Splices of the list of records: a gap is opened, a slot is filled, gaps are closed, the spans are put right. The changing
 // calls are made of these. Their contracts speak of records (`specs/Splice.antt`), not of the tree.
 ghost use mathlib.Core.Path.{_≡_};
-ghost use Prim.Native.Nat.{_+_, _*_, _-_, _≤_, _<_};
+ghost use mathlib.Core.List.{List};
+ghost use Prim.Native.Nat.{ℕ, _+_, _*_, _-_, _≤_, _<_};
 ghost use lib.ListN.{length, set};
-ghost use Rattle.pool.specs.Layout.{startOf, lenOf};
-ghost use Rattle.pool.specs.Splice.{reach, Linked, Relinked, Room, Moved, storedOf, headPut, labelPut, bareOf, bareAt, Filled, Swept, Closed};
+ghost use Rattle.pool.specs.Layout.{startOf, lenOf, numAt};
+ghost use Rattle.pool.specs.Splice.{reach, Linked, Relinked, Settled, Room, Moved, storedOf, headPut, labelPut, bareOf, bareAt, frontOf, backOf, Filled, Swept, Closed};
 use tree::RuleNo;
 use tree::Slot;
 
@@ -45,6 +46,15 @@ pub fn relink(words: &mut [u32], n: usize)
         let span = extent(words, n, i);
         set_span(words, Slot(i), span);
     }
+}
+
+// Ends a splice that leaves n slots in use: they are counted, and their spans are put right.
+pub fn settle(words: &mut [u32], n: usize)
+    requires { ⌜ (6 * n + 8 ≤ length (now words)) × (n ≤ 16384) ⌝ }
+    ensures { λ _. ⌜ Settled (now (words .entry)) (now (words .exit)) n ⌝ }
+{
+    words[0] = n as u32;
+    relink(words, n);
 }
 
 // A number that may be missing.
@@ -108,6 +118,39 @@ pub fn put_node(
 {
     put_head(words, at, start, bytes.len(), stored);
     put_label(labels, at, bytes);
+}
+
+// The number at a slot, if it has one.
+pub fn stored_at(words: &[u32], at: Slot) -> Stored
+    requires { ⌜ 6 * at .0 + 14 ≤ length (now words) ⌝ }
+    ensures { λ r. ⌜ storedOf r ≡ numAt (now (words .entry)) (at .0) ⌝ }
+{
+    if crate::has_at(words, at) == 0 {
+        return Stored::Nothing;
+    }
+    Stored::Number(crate::number_at(words, at))
+}
+
+// Keeps the first m bytes of a slot's label, with this number or none. The bytes stay where they are.
+pub fn keep_front(words: &mut [u32], at: Slot, m: usize, stored: Stored)
+    requires { ⌜ (6 * at .0 + 14 ≤ length (now words)) × (m ≤ lenOf (now words) (at .0)) × (lenOf (now words) (at .0) ≤ 255) ⌝ }
+    ensures { λ _. ⌜ ((bs : List ℕ) → 255 * at .0 + 255 ≤ length bs → Filled (now (words .entry)) bs (now (words .exit)) bs (at .0) (frontOf m (storedOf stored) (bareAt (now (words .entry)) bs (at .0)))) ⌝ }
+{
+    let start = crate::start_at(words, at);
+    put_head(words, at, start, m, stored);
+}
+
+// Keeps what is behind the first m bytes of a slot's label, with the slot's number, under m more bytes of the path.
+pub fn keep_back(labels: &mut [u8], words: &mut [u32], at: Slot, m: usize)
+    requires { ⌜ (6 * at .0 + 14 ≤ length (now words)) × (255 * at .0 + 255 ≤ length (now labels)) × (m ≤ lenOf (now words) (at .0)) × (lenOf (now words) (at .0) ≤ 255) × (startOf (now words) (at .0) ≤ 4096) ⌝ }
+    ensures { λ _. ⌜ Filled (now (words .entry)) (now (labels .entry)) (now (words .exit)) (now (labels .exit)) (at .0) (backOf m (bareAt (now (words .entry)) (now (labels .entry)) (at .0))) ⌝ }
+{
+    let from = 255 * at.0;
+    let start = crate::start_at(words, at);
+    let len = crate::len_at(words, at);
+    let stored = stored_at(words, at);
+    put_head(words, at, start + m, len - m, stored);
+    label::move_bytes_down(labels, from + m, from + len, m);
 }
 
 // Moves one slot down.

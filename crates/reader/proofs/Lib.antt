@@ -5,3 +5,4 @@ pub mod Lying
 pub mod Fills
 pub mod Whole
 pub mod Answers
+pub mod Decided

@@ -190,11 +190,11 @@ module _ (t : Tree) where
       omega (arith, p .above-is, e .bytes, leads-length (p .context) a k (p .y) (p .r) (p .leads))
 
 -- The calls: refusals 1 and 2, and what they come to where both tests pass
-fits-not : (key : Key) → 4096 < length key → fits key ≡ false
+pub fits-not : (key : Key) → 4096 < length key → fits key ≡ false
 unfolding fits keyMax
 fits-not key h = lt-leb _ _ h
 
-fits-well : (key : Key) → length key ≤ keyMax → fits key ≡ true
+pub fits-well : (key : Key) → length key ≤ keyMax → fits key ≡ true
 unfolding fits
 fits-well key h = le-leb _ _ h
 
@@ -233,17 +233,17 @@ pub record Known (ws bs key : List ℕ) (d : Descent) : Type 0 where
 
 module _ {ws bs key : List ℕ} {d : Descent} (w : Known ws bs key d) where
   -- the pool's tree, and where the search has come to in it, where s is the way of ending
-  tree : Tree
+  pub tree : Tree
   tree = rule-tree ws bs (w .rule) .0
 
-  tree-is : poolTree ws bs ≡ some tree
+  pub tree-is : poolTree ws bs ≡ some tree
   unfolding tree
   tree-is = rule-tree ws bs (w .rule) .1
 
-  holds : Holds ws bs tree
+  pub holds : Holds ws bs tree
   holds = tree-holds ws bs (w .bytes) tree tree-is
 
-  place : (s : Stop) → d .stop ≡ s → PlaceOf tree key s (d .at .0) (d .end .0) (d .parent .0) (d .above)
+  pub place : (s : Stop) → d .stop ≡ s → PlaceOf tree key s (d .at .0) (d .end .0) (d .parent .0) (d .above)
   place s e = subst (λ (x : Stop). PlaceOf tree key x (d .at .0) (d .end .0) (d .parent .0) (d .above)) e (w .lands tree tree-is .place)
 
   -- the slot lies within the words

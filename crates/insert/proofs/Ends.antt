@@ -1,0 +1,334 @@
+-- Where the search has ended: what its slot says, what may be done there, and which splice of records inserts the key.
+-- Assumes nothing.
+use mathlib.Core.Path.{_≡_, refl, sym, ap, _∙_}
+use mathlib.Core.Bool.{Bool, true, false}
+use mathlib.Core.List.{List, [], _∷_, _++_, append-assoc}
+use mathlib.Core.Option.{none, some}
+use Prim.Native.Nat.{ℕ, zero, suc, _+_, _*_, _-_, _≤_, _<_}
+use native.Mathlib.Omega.{arith}
+use lib.Dec.{ltb}
+use lib.ListN.{length, getD, take, drop, length-drop, length-append}
+use lib.Seq.{take-all, drop-drop, drop-at, getD-append-seam}
+use borrow.Author.Tests.{lt-ltb, le-ltb}
+use Rattle.tree.specs.Key.{Key, Bytes, keyMax}
+use Rattle.tree.specs.Map.{Num}
+use Rattle.tree.specs.Tree.{Forest, nil, node, Tree, Above, Wf, room, nodesF, nodesT}
+use Rattle.tree.specs.Image.{numbersW}
+use Rattle.tree.specs.Insert.{leaf, insertF, insertT}
+use Rattle.tree.specs.Told.{Told, done}
+use Rattle.tree.specs.Calls.{insertCall}
+use Rattle.tree.specs.Context.{Context, plug, depth, before, Leads}
+use Rattle.tree.proofs.Order.{less, even, more, cmp}
+use Rattle.tree.proofs.Context.{insert-plug}
+use Rattle.pool.specs.Layout.{nodesOf, startOf, lenOf, spanOf, labelOf, numAt}
+use Rattle.pool.specs.Records.{nodeRec, rootRec}
+use Rattle.pool.specs.Pool.{poolTree, slotsIn}
+use Rattle.pool.specs.Rule.{PoolRule}
+use Rattle.pool.specs.Post.{Meets}
+use Rattle.pool.specs.Splice.{Bare, bareAt, baresFrom, nodeBare, baresF, rootBare, baresT, bareOf, frontOf, backOf}
+use Rattle.pool.proofs.Stands.{Stands, Holds, nodes-are, stands-at}
+use Rattle.pool.proofs.Held.{slot-is-rec}
+use Rattle.pool.proofs.Bares.{baresF-length, node-bares, stands-bares, ahead, behind, ahead-length, tree-around}
+use Rattle.search.specs.declared.Stop.{Stop}
+use Rattle.search.specs.declared.Descent.{Descent}
+use Rattle.search.specs.Landing.{Ends, Place, PlaceOf}
+use Rattle.search.proofs.Places.{plug-stands, plug-wf, plug-nodes, nodes-node, leads-drop, leads-length}
+use Rattle.search.proofs.Answers.{Known, tree, tree-is, holds, place, gotAt, get-place, place-within}
+use Rattle.insert.specs.Splices.{leafBares, Cuts, Forks, forkBares, forkSide, forkWas, Placed}
+use Rattle.insert.proofs.Steps.{Step, front-whole, front-cut, back-cut, gap-step, same-step, inside-step, before-step, behind-step}
+use Rattle.insert.proofs.Grown.{Splits, placed-meets}
+
+-- What is left of a key behind n bytes, as the code takes it
+abbrev pub left : Key → ℕ → Key
+left key n = take (length key - n) (drop n key)
+
+left-is : (key : Key) (n : ℕ) → left key n ≡ drop n key
+left-is key n = take-all (length key - n) (drop n key) (omega (arith, length-drop n key))
+
+pub left-length : (key : Key) (n : ℕ) → length (left key n) ≡ length key - n
+left-length key n = ap length (left-is key n) ∙ length-drop n key
+
+-- The slot of the first node of the forest that the search has come to
+record NodeHere (ws bs : List ℕ) (at s b : ℕ) (l : Key) (num : Num) (kids : Forest) : Type 0 where
+  start : startOf ws at ≡ s
+  len : lenOf ws at ≡ suc (length l)
+  label : labelOf ws bs at ≡ b ∷ l
+  span : spanOf ws at ≡ suc (nodesF kids)
+  bare : bareAt ws bs at ≡ nodeBare s b l num
+  below : baresFrom ws bs (at + 1) (nodesF kids) ≡ baresF (s + suc (length l)) kids
+  short : length l ≤ 254
+  deep : s + suc (length l) ≤ 4096
+  inside : at + suc (nodesF kids) ≤ nodesOf ws
+
+module _ {ws bs : List ℕ} {t : Tree} (h : Holds ws bs t) where
+  node-here : {a : ℕ} {k : Key} {s : Stop} {at end up above : ℕ} (p : Place t a k s at end up above) (b : ℕ) (l : Key) (num : Num) (kids rest : Forest)
+      → p .forest ≡ node b l num kids rest → NodeHere ws bs at (depth (p .context)) b l num kids
+  unfolding room keyMax
+  node-here {a} {k} {s} {at} {end} {up} {above} p b l num kids rest e =
+      let C = p .context in
+      let f = node b l num kids rest in
+      let st : Stands ws bs 0 (plug C f) 1 = rw (p .tree, e) at (h .kids) in
+      let x = stands-at ws bs (depth C) f (sym (p .at-is)) (plug-stands ws bs C f st) in
+      let r = slot-is-rec ws bs at (nodeRec (depth C) b l num (nodesF kids)) (x .0) in
+      let n = node-bares ws bs (depth C) b l num kids rest at (stands-bares ws bs (depth C) f at x) in
+      let w : Wf 0 (plug C f) = rw (p .tree, e) at (h .wf) in
+      let u = plug-wf C f w in
+      let m : nodesF (t .kids) ≡ nodesF (plug C f) = ap nodesF (p .tree ∙ ap (plug C) e) in
+      record {
+        start = r .start;
+        len = r .len;
+        label = r .label;
+        span = r .span;
+        bare = n .slot;
+        below = n .below;
+        short = u .short;
+        deep = u .deep;
+        inside = omega (arith, p .at-is, m, plug-nodes C f, nodes-node b l num kids rest, h .nodes, nodes-are t);
+      }
+
+  -- What the code asks of each place
+  pub gap-ready : (key : Key) (at end up above : ℕ) → PlaceOf t key Stop.Gap at end up above → (at ≤ nodesOf ws) × (above < length key)
+  gap-ready [] at end up above p = absurd p
+  gap-ready (a ∷ k) at end up above p =
+      let m : nodesF (t .kids) ≡ nodesF (plug (p .context) (p .forest)) = ap nodesF (p .tree) in (
+        omega (arith, p .at-is, m, plug-nodes (p .context) (p .forest), h .nodes, nodes-are t),
+        omega (arith, p .above-is, leads-length (p .context) a k (p .y) (p .r) (p .leads)),
+      )
+
+  pub same-short : (key : Key) (at end up above : ℕ) → PlaceOf t key Stop.Same at end up above → lenOf ws at ≤ 255
+  same-short [] at end up above p = absurd p
+  same-short (a ∷ k) at end up above p =
+      let e = p .ends in
+      omega (arith, node-here p (p .y) (p .r) (e .num) (e .kids) (e .rest) (e .is))
+
+  pub inside-ready : (key : Key) (m at end up above : ℕ) → PlaceOf t key (Stop.Inside m) at end up above → Cuts ws at m
+  inside-ready [] m at end up above p = absurd p
+  inside-ready (a ∷ k) m at end up above p =
+      let e = p .ends in
+      let n = node-here p (p .y) (p .r ++ e .x ∷ e .tail) (e .num) (e .kids) (e .rest) (e .is) in
+      let l = length-append (p .r) (e .x ∷ e .tail) in
+      let b = e .bytes in
+      record { used = omega arith; cut = omega arith; short = omega arith; start = omega arith }
+
+  pub fork-ready : (key : Key) (m at end up above : ℕ) → length key ≤ 4096 → PlaceOf t key (Stop.Fork m) at end up above
+      → (above + m < length key) × Forks ws at m (left key (above + m))
+  fork-ready [] m at end up above short p = absurd p
+  fork-ready (a ∷ k) m at end up above short p =
+      let e = p .ends in
+      let n = node-here p (p .y) (e .shared ++ e .x ∷ e .tail) (e .num) (e .kids) (e .rest) (e .is) in
+      let l = length-append (e .shared) (e .x ∷ e .tail) in
+      let b = e .bytes in
+      let c = p .above-is in
+      let i : length (p .r) ≡ length (e .shared) + suc (length (e .left)) = ap length (e .key) ∙ length-append (e .shared) (e .z ∷ e .left) in
+      let g = leads-length (p .context) a k (p .y) (p .r) (p .leads) in
+      let q = left-length (a ∷ k) (above + m) in (
+        omega arith,
+        record {
+          cuts = record { used = omega arith; cut = omega arith; short = omega arith; start = omega arith };
+          less = omega arith;
+          some = omega arith;
+          deep = omega arith;
+          span = omega arith;
+          inside = omega arith;
+        },
+      )
+
+-- The splice that inserts the key, by how the search ends
+abbrev pub wasAt : (ws bs : List ℕ) (key : Key) (at above : ℕ) → Stop → ℕ
+wasAt ws bs key at above Stop.Root = 1
+wasAt ws bs key at above Stop.Gap = 0
+wasAt ws bs key at above Stop.Same = 1
+wasAt ws bs key at above (Stop.Inside m) = 1
+wasAt ws bs key at above (Stop.Fork m) = forkWas ws at (forkSide ws bs at m (left key (above + m)))
+
+abbrev pub nowAt : (ws bs : List ℕ) (key : Key) (v at above : ℕ) → Stop → List Bare
+nowAt ws bs key v at above Stop.Root = frontOf (lenOf ws at) (some v) (bareAt ws bs at) ∷ []
+nowAt ws bs key v at above Stop.Gap = leafBares above (left key above) v
+nowAt ws bs key v at above Stop.Same = frontOf (lenOf ws at) (some v) (bareAt ws bs at) ∷ []
+nowAt ws bs key v at above (Stop.Inside m) = frontOf m (some v) (bareAt ws bs at) ∷ backOf m (bareAt ws bs at) ∷ []
+nowAt ws bs key v at above (Stop.Fork m) = forkBares ws bs at m (left key (above + m)) v (forkSide ws bs at m (left key (above + m)))
+
+-- A step of the forest that the search has come to is one of the tree.
+place-splits : (t : Tree) (a : ℕ) (k : Key) (v : ℕ) {s : Stop} {at end up above : ℕ} (p : Place t a k s at end up above) (was : ℕ) (ps xs : List Bare) → length ps ≡ was
+    → Step (depth (p .context)) (p .forest) (insertF (p .forest) (p .y) (p .r) v) ps xs → Splits t (insertT t (a ∷ k) v) at was xs
+unfolding insertT
+place-splits t a k v {s} {at} {end} {up} {above} p was ps xs l st =
+    let C = p .context in
+    let g = insertF (p .forest) (p .y) (p .r) v in
+    let u : Tree = record { num = t .num; kids = insertF (t .kids) a k v } in
+    let e : u .kids ≡ plug C g = ap (λ (f : Forest). insertF f a k v) (p .tree) ∙ insert-plug v C (p .forest) a k (p .y) (p .r) (p .leads) in
+    let o = append-assoc ps (st .rest) (behind C) in
+    let n = append-assoc xs (st .rest) (behind C) in
+    record {
+      front = rootBare (t .num) ∷ ahead C;
+      gone = ps;
+      back = st .rest ++ behind C;
+      at-is = ahead-length C ∙ sym (p .at-is);
+      was-is = l;
+      old = tree-around t C (p .forest) (p .tree) ∙ ap (λ (z : List Bare). rootBare (t .num) ∷ ahead C ++ z) (ap (λ (z : List Bare). z ++ behind C) (st .old) ∙ o);
+      new = tree-around u C g e ∙ ap (λ (z : List Bare). rootBare (t .num) ∷ ahead C ++ z) (ap (λ (z : List Bare). z ++ behind C) (st .new) ∙ n);
+    }
+
+splits-as : {t u : Tree} {at was : ℕ} (xs ys : List Bare) → xs ≡ ys → Splits t u at was ys → Splits t u at was xs
+splits-as xs ys e s = rw e s
+
+module _ {ws bs : List ℕ} {t : Tree} (h : Holds ws bs t) (v : ℕ) where
+  -- the root's record with the number
+  root-now : frontOf (lenOf ws 0) (some v) (bareAt ws bs 0) ≡ rootBare (some v)
+  unfolding bareAt
+  root-now =
+      let r = slot-is-rec ws bs 0 (rootRec (t .num) (nodesF (t .kids))) (h .root) in
+      rw (r .start, r .len)
+
+  root-splits : (at : ℕ) → at ≡ 0 → Splits t (insertT t [] v) at 1 (frontOf (lenOf ws at) (some v) (bareAt ws bs at) ∷ [])
+  unfolding insertT baresT
+  root-splits at e =
+      rw e
+      (record {
+        front = [];
+        gone = rootBare (t .num) ∷ [];
+        back = baresF 0 (t .kids);
+        at-is = refl;
+        was-is = refl;
+        old = refl;
+        new = ap (λ (x : Bare). x ∷ baresF 0 (t .kids)) (sym root-now);
+      })
+
+  module _ (a : ℕ) (k : Key) (at end up above : ℕ) where
+    gap-splits : Place t a k Stop.Gap at end up above → Splits t (insertT t (a ∷ k) v) at 0 (leafBares above (left (a ∷ k) above) v)
+    gap-splits p =
+        let C = p .context in
+        let e : left (a ∷ k) above ≡ p .y ∷ p .r = left-is (a ∷ k) above ∙ ap (λ (n : ℕ). drop n (a ∷ k)) (p .above-is) ∙ leads-drop C a k (p .y) (p .r) (p .leads) in
+        splits-as (leafBares above (left (a ∷ k) above) v) (baresF (depth C) (leaf (p .y) (p .r) v nil)) (rw (e, p .above-is) refl) (place-splits t a k v p 0 [] _ refl (gap-step (depth C) (p .forest) (p .y) (p .r) v (p .ends)))
+
+    same-splits : Place t a k Stop.Same at end up above → Splits t (insertT t (a ∷ k) v) at 1 (frontOf (lenOf ws at) (some v) (bareAt ws bs at) ∷ [])
+    same-splits p =
+        let e = p .ends in
+        let d = depth (p .context) in
+        let n = node-here h p (p .y) (p .r) (e .num) (e .kids) (e .rest) (e .is) in
+        splits-as (frontOf (lenOf ws at) (some v) (bareAt ws bs at) ∷ []) (nodeBare d (p .y) (p .r) (some v) ∷ [])
+        (rw (n .len, n .bare) (ap (λ (x : Bare). x ∷ []) (front-whole d (p .y) (p .r) (some v) (e .num))))
+        (place-splits t a k v p 1 (nodeBare d (p .y) (p .r) (e .num) ∷ []) _ refl (rw (e .is) (same-step d (p .y) (e .num) (e .kids) (e .rest) v (p .r))))
+
+    inside-splits : (m : ℕ) → Place t a k (Stop.Inside m) at end up above
+        → Splits t (insertT t (a ∷ k) v) at 1 (frontOf m (some v) (bareAt ws bs at) ∷ backOf m (bareAt ws bs at) ∷ [])
+    inside-splits m p =
+        let e = p .ends in
+        let d = depth (p .context) in
+        let n = node-here h p (p .y) (p .r ++ e .x ∷ e .tail) (e .num) (e .kids) (e .rest) (e .is) in
+        splits-as (frontOf m (some v) (bareAt ws bs at) ∷ backOf m (bareAt ws bs at) ∷ [])
+        (nodeBare d (p .y) (p .r) (some v) ∷ nodeBare (d + suc (length (p .r))) (e .x) (e .tail) (e .num) ∷ [])
+        (rw (n .bare, e .bytes)
+        (cc (front-cut d (p .y) (p .r) (e .x) (e .tail) (some v) (e .num), back-cut d (p .y) (p .r) (e .x) (e .tail) (e .num))))
+        (place-splits t a k v p 1 (nodeBare d (p .y) (p .r ++ e .x ∷ e .tail) (e .num) ∷ []) _ refl (rw (e .is) (inside-step d (p .y) (e .num) (e .kids) (e .rest) v (p .r) (e .x) (e .tail))))
+
+    fork-splits : (m : ℕ) → Place t a k (Stop.Fork m) at end up above
+        → let q = left (a ∷ k) (above + m) in
+        let b = forkSide ws bs at m q in
+        Splits t (insertT t (a ∷ k) v) at (forkWas ws at b) (forkBares ws bs at m q v b)
+    fork-splits m p =
+        let e = p .ends in
+        let C = p .context in
+        let d = depth C in
+        let l = e .shared ++ e .x ∷ e .tail in
+        let q = left (a ∷ k) (above + m) in
+        let n = node-here h p (p .y) l (e .num) (e .kids) (e .rest) (e .is) in
+        let front = front-cut d (p .y) (e .shared) (e .x) (e .tail) none (e .num) in
+        let back = back-cut d (p .y) (e .shared) (e .x) (e .tail) (e .num) in
+        let down : drop above (a ∷ k) ≡ p .y ∷ e .shared ++ e .z ∷ e .left =
+        ap (λ (i : ℕ). drop i (a ∷ k)) (p .above-is) ∙ leads-drop C a k (p .y) (p .r) (p .leads) ∙ ap (λ (i : Key). p .y ∷ i) (e .key) in
+        let q-is : q ≡ e .z ∷ e .left =
+        left-is (a ∷ k) (above + m) ∙ sym (drop-drop m above (a ∷ k)) ∙ ap (drop m) down ∙ drop-at (p .y ∷ e .shared) (e .z ∷ e .left) m (sym (e .bytes)) in
+        let s-is : startOf ws at + m ≡ d + suc (length (e .shared)) = omega (arith, n .start, e .bytes) in
+        let here : getD (labelOf ws bs at) m 0 ≡ e .x = rw (n .label, e .bytes) (getD-append-seam (p .y ∷ e .shared) (e .x) (e .tail) 0) in
+        let side : forkSide ws bs at m q ≡ ltb (e .z) (e .x) = rw (q-is, here) refl in
+        let kids : baresFrom ws bs (at + 1) (spanOf ws at - 1) ≡ baresF (d + suc (length l)) (e .kids) =
+        let z : spanOf ws at - 1 ≡ nodesF (e .kids) = omega (arith, n .span) in
+        rw z (n .below) in
+        elim (cmp (e .z) (e .x)) [
+          | less i c ↦
+              let y = side ∙ lt-ltb (e .z) (e .x) i in
+              rw y
+              (splits-as (forkBares ws bs at m q v true)
+              (nodeBare d (p .y) (e .shared) none ∷ baresF (d + suc (length (e .shared))) (leaf (e .z) (e .left) v nil) ++ (nodeBare (d + suc (length (e .shared))) (e .x) (e .tail) (e .num) ∷ []))
+              (rw (n .bare, q-is, s-is, e .bytes, front, back) refl)
+              (place-splits t a k v p 1 (nodeBare d (p .y) l (e .num) ∷ []) _ refl (rw (e .is, e .key) (before-step d (p .y) (e .num) (e .kids) (e .rest) v (e .shared) (e .x) (e .tail) (e .z) (e .left) (e .differ) i))))
+          | even i c ↦ absurd (e .differ i)
+          | more i c ↦
+              let y = side ∙ le-ltb (e .z) (e .x) (omega arith) in
+              rw y
+              (splits-as (forkBares ws bs at m q v false)
+              (nodeBare d (p .y) (e .shared) none ∷ (nodeBare (d + suc (length (e .shared))) (e .x) (e .tail) (e .num) ∷ baresF (d + suc (length l)) (e .kids)) ++ baresF (d + suc (length (e .shared))) (leaf (e .z) (e .left) v nil))
+              (rw (n .bare, q-is, s-is, kids, e .bytes, front, back) refl)
+              (place-splits t a k v p (spanOf ws at) (nodeBare d (p .y) l (e .num) ∷ baresF (d + suc (length l)) (e .kids)) _ (omega (arith, n .span, baresF-length (d + suc (length l)) (e .kids)))
+              (rw (e .is, e .key) (behind-step d (p .y) (e .num) (e .kids) (e .rest) v (e .shared) (e .x) (e .tail) (e .z) (e .left) (e .differ) i))))
+        ]
+
+  splits : (key : Key) (s : Stop) (at end up above : ℕ) → PlaceOf t key s at end up above → Splits t (insertT t key v) at (wasAt ws bs key at above s) (nowAt ws bs key v at above s)
+  splits [] Stop.Root at end up above p = root-splits at p
+  splits [] Stop.Gap at end up above p = absurd p
+  splits [] Stop.Same at end up above p = absurd p
+  splits [] (Stop.Inside m) at end up above p = absurd p
+  splits [] (Stop.Fork m) at end up above p = absurd p
+  splits (a ∷ k) Stop.Root at end up above p = absurd (p .ends)
+  splits (a ∷ k) Stop.Gap at end up above p = gap-splits a k at end up above p
+  splits (a ∷ k) Stop.Same at end up above p = same-splits a k at end up above p
+  splits (a ∷ k) (Stop.Inside m) at end up above p = inside-splits a k at end up above m p
+  splits (a ∷ k) (Stop.Fork m) at end up above p = fork-splits a k at end up above m p
+
+root-place : (t : Tree) (key : Key) (at end up above : ℕ) → PlaceOf t key Stop.Root at end up above → at ≡ 0
+root-place t [] at end up above p = p
+root-place t (a ∷ k) at end up above p = absurd (p .ends)
+
+-- What the code places where its search has ended meets the call's contract.
+module _ {ws bs key : List ℕ} {d : Descent} (w : Known ws bs key d) where
+  slots-are : (6 * nodesOf ws + 8 ≤ length ws) × (nodesOf ws ≤ 16384)
+  slots-are = let r = w .rule in (omega (arith, r .lengths, r .room), omega (arith, r .lengths, r .room))
+
+  -- what is asked at each end
+  abbrev SetAsks : Type 0
+  SetAsks = (6 * nodesOf ws + 8 ≤ length ws) × (nodesOf ws ≤ 16384) × (d .at .0 < nodesOf ws) × (lenOf ws (d .at .0) ≤ 255)
+
+  pub root-asks : d .stop ≡ Stop.Root → SetAsks
+  root-asks e =
+      let p = place w Stop.Root e in
+      let z = root-place (tree w) key (d .at .0) (d .end .0) (d .parent .0) (d .above) p in
+      let r = w .rule in
+      (slots-are .0, slots-are .1, omega (arith, z, r .nodes), rw z (omega (arith, r .root-len)))
+
+  pub same-asks : d .stop ≡ Stop.Same → SetAsks
+  same-asks e =
+      let p = place w Stop.Same e in
+      let h = holds w in
+      (slots-are .0, slots-are .1, place-within h key Stop.Same (d .at .0) (d .end .0) (d .parent .0) (d .above) tt p, same-short h key (d .at .0) (d .end .0) (d .parent .0) (d .above) p)
+
+  gap-place : d .stop ≡ Stop.Gap → (d .at .0 ≤ nodesOf ws) × (d .above < length key)
+  gap-place e = gap-ready (holds w) key (d .at .0) (d .end .0) (d .parent .0) (d .above) (place w Stop.Gap e)
+
+  pub gap-within : d .stop ≡ Stop.Gap → d .above < length key
+  gap-within e = gap-place e .1
+
+  pub gap-asks : d .stop ≡ Stop.Gap → PoolRule ws bs × (d .at .0 ≤ nodesOf ws) × (1 ≤ length (left key (d .above))) × (d .above + length (left key (d .above)) ≤ 4096)
+  unfolding keyMax
+  gap-asks e =
+      let p = gap-place e in
+      let l = left-length key (d .above) in
+      let k = w .short in
+      (w .rule, p .0, omega arith, omega arith)
+
+  pub inside-asks : (m : ℕ) → d .stop ≡ Stop.Inside m → PoolRule ws bs × Cuts ws (d .at .0) m
+  inside-asks m e = (w .rule, inside-ready (holds w) key m (d .at .0) (d .end .0) (d .parent .0) (d .above) (place w (Stop.Inside m) e))
+
+  pub fork-asks : (m : ℕ) → d .stop ≡ Stop.Fork m → (d .above + m < length key) × Forks ws (d .at .0) m (left key (d .above + m))
+  unfolding keyMax
+  fork-asks m e = fork-ready (holds w) key m (d .at .0) (d .end .0) (d .parent .0) (d .above) (w .short) (place w (Stop.Fork m) e)
+
+  pub meets : Bytes key → (v : ℕ) (s : Stop) → d .stop ≡ s → (vs cs : List ℕ) (told : Told)
+      → Placed ws bs vs cs (d .at .0) (wasAt ws bs key (d .at .0) (d .above) s) (nowAt ws bs key v (d .at .0) (d .above) s) (done (numbersW (gotAt s (numAt ws (d .at .0))) [])) told
+      → Meets (insertCall (poolTree ws bs) (slotsIn bs) key v) told ws bs vs cs
+  meets by v s e vs cs told x =
+      let h = holds w in
+      let p = place w s e in
+      let g = get-place h key s (d .at .0) (d .end .0) (d .parent .0) (d .above) p in
+      placed-meets (tree-is w) h key v by (w .short) vs cs (done (numbersW (gotAt s (numAt ws (d .at .0))) [])) told
+      (splits h v key s (d .at .0) (d .end .0) (d .parent .0) (d .above) p) (ap (λ (n : Num). done (numbersW n [])) (sym g)) x

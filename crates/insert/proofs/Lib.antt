@@ -1,0 +1,7 @@
+pub mod Leaves
+pub mod Places
+pub mod Room
+pub mod Steps
+pub mod Grown
+pub mod Ends
+pub mod Decided

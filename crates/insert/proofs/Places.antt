@@ -1,0 +1,227 @@
+-- Records in their place: a leaf in a gap, a cut, a cut with a leaf beside the lower part. Assumes nothing.
+use mathlib.Core.Path.{_≡_, refl, sym, ap, _∙_}
+use mathlib.Core.List.{List, [], _∷_, _++_}
+use mathlib.Core.Bool.{true, false}
+use mathlib.Core.Option.{none}
+use Prim.Native.Nat.{ℕ, zero, suc, _+_, _*_, _-_, _≤_, _<_}
+use native.Mathlib.Omega.{arith}
+use lib.ListN.{length, length-append}
+use Rattle.tree.specs.Key.{Key}
+use Rattle.tree.specs.Map.{Num}
+use Rattle.pool.specs.Layout.{nodesOf, startOf, lenOf, spanOf}
+use Rattle.pool.specs.Records.{run}
+use Rattle.pool.specs.Rule.{Within}
+use Rattle.pool.specs.Splice.{Bare, bareAt, baresFrom, Moved, frontOf, backOf, Filled}
+use Rattle.pool.proofs.Runs.{Parts, run-cons, run-whole, run-ext, run-length}
+use Rattle.insert.specs.Splices.{leafNodes, leafBares, Built, Cuts, Replaced, forkBares}
+use Rattle.insert.proofs.Leaves.{run-one, leaf-length}
+
+-- A slot that says what slot `at` said can be cut like it.
+pub record Cut (ws : List ℕ) (at m : ℕ) : Type 0 where
+  pub cut : m ≤ lenOf ws at
+  pub short : lenOf ws at ≤ 255
+  pub start : startOf ws at ≤ 4096
+
+pub cut-same : (ws bs us ds : List ℕ) (at i m : ℕ) → Cuts ws at m → bareAt us ds i ≡ bareAt ws bs at → Cut us i m
+unfolding bareAt
+cut-same ws bs us ds at i m c e =
+    let l : lenOf us i ≡ lenOf ws at = ap (λ (x : Bare). x .len) e in
+    let s : startOf us i ≡ startOf ws at = ap (λ (x : Bare). x .start) e in
+    record { cut = omega (arith, c .cut); short = omega (arith, c .short); start = omega (arith, c .start) }
+
+-- A leaf in a gap
+pub opened : (ws bs us ds vs cs : List ℕ) (at n k : ℕ) (xs : List Bare) → n ≡ nodesOf ws → at ≤ n → Within ws bs (n + k) → length xs ≡ k
+    → Moved ws bs us ds at n k → Built us ds vs cs at xs → Replaced ws bs vs cs at 0 xs
+opened ws bs us ds vs cs at n k xs e h w l m b =
+    let ld = m .lenB in
+    let wl = w .labels in
+    record {
+      lenW = b .lenW ∙ m .lenW;
+      lenB = b .lenB ∙ m .lenB;
+      front = λ i o. b .low i o (omega arith) ∙ m .low i (omega arith);
+      slots = b .slots;
+      back = λ i o.
+          let j : at + length xs + i ≡ at + i + k = omega arith in
+          let z : at + i ≡ at + 0 + i = omega arith in
+          b .high (at + length xs + i) (omega arith) (omega arith) ∙ ap (bareAt us ds) j ∙ m .moved (at + i) (omega arith) (omega arith) ∙ ap (bareAt ws bs) z;
+    }
+
+-- no slot at all
+pub built-none : (ws bs : List ℕ) (at : ℕ) → Built ws bs ws bs at []
+built-none ws bs at = record { lenW = refl; lenB = refl; head = λ j h. refl; slots = unfold run in refl; low = λ i h r. refl; high = λ i h r. refl }
+
+-- A cut with the records xs between its parts: the slots from `at` on have moved up by one more than there are xs.
+module _ (ws bs us ds : List ℕ) (at n k m lo : ℕ) (le : lo ≡ at + 1 + k) (e : n ≡ nodesOf ws) (c : Cuts ws at m) (w : Within ws bs (n + 1 + k)) (mv : Moved ws bs us ds at n (1 + k)) where
+  -- the upper part is still there, and so is the lower one, further up
+  pub upper-there : bareAt us ds at ≡ bareAt ws bs at
+  upper-there = mv .low at (omega arith)
+
+  pub lower-there : bareAt us ds lo ≡ bareAt ws bs at
+  lower-there =
+      let j : lo ≡ at + (1 + k) = omega arith in
+      ap (bareAt us ds) j ∙ mv .moved at (omega arith) (omega (arith, c .used))
+
+  module _ (vs cs : List ℕ) (x : Bare) (f : Filled us ds vs cs at x) where
+    pub lower-next : bareAt vs cs lo ≡ bareAt ws bs at
+    lower-next = f .others lo (λ q. omega arith) (omega (arith, w .labels, mv .lenB, c .used)) ∙ lower-there
+
+    module _ (vs₂ cs₂ : List ℕ) (xs : List Bare) (l : length xs ≡ k) (b : Built vs cs vs₂ cs₂ (at + 1) xs) where
+      pub lower-then : bareAt vs₂ cs₂ lo ≡ bareAt ws bs at
+      lower-then = b .high lo (omega arith) (omega (arith, w .labels, mv .lenB, f .lenB, c .used)) ∙ lower-next
+
+      pub cut-around : (vs₃ cs₃ : List ℕ) (y : Bare) → Filled vs₂ cs₂ vs₃ cs₃ lo y → Replaced ws bs vs₃ cs₃ at 1 (x ∷ xs ++ (y ∷ []))
+      cut-around vs₃ cs₃ y g =
+          let l₁ = mv .lenB in
+          let l₂ = f .lenB in
+          let l₃ = b .lenB in
+          let wl = w .labels in
+          let cu = c .used in
+          let ll : length (x ∷ xs ++ (y ∷ [])) ≡ suc (length xs + 1) = ap suc (length-append xs (y ∷ [])) in
+          let j : at + suc (length xs) ≡ lo = omega arith in
+          record {
+            lenW = g .lenW ∙ b .lenW ∙ f .lenW ∙ mv .lenW;
+            lenB = g .lenB ∙ b .lenB ∙ f .lenB ∙ mv .lenB;
+            front = λ i h.
+                g .others i (λ q. omega arith) (omega arith) ∙ b .low i (omega arith) (omega arith) ∙ f .others i (λ q. omega arith) (omega arith) ∙ mv .low i (omega arith);
+            slots =
+                ap (baresFrom vs₃ cs₃ at) ll
+                ∙ run-whole (bareAt vs₃ cs₃) at x xs (y ∷ [])
+                (record {
+                  slot = g .others at (λ q. omega arith) (omega arith) ∙ b .low at (omega arith) (omega arith) ∙ f .slot;
+                  below = run-ext (bareAt vs₃ cs₃) (bareAt vs₂ cs₂) (at + 1) (at + 1) (length xs) (λ i h. g .others (at + 1 + i) (λ q. omega arith) (omega arith)) ∙ b .slots;
+                  beside = run-one (bareAt vs₃ cs₃) (at + suc (length xs)) ∙ ap (λ (z : Bare). z ∷ []) (ap (bareAt vs₃ cs₃) j ∙ g .slot);
+                });
+            back = λ i h.
+                let p : at + length (x ∷ xs ++ (y ∷ [])) + i ≡ at + 1 + k + 1 + i = omega (arith, ll) in
+                let q : at + 1 + k + 1 + i ≡ at + 1 + i + (1 + k) = omega arith in
+                ap (bareAt vs₃ cs₃) p
+                ∙ g .others (at + 1 + k + 1 + i) (λ z. omega arith) (omega arith)
+                ∙ b .high (at + 1 + k + 1 + i) (omega arith) (omega arith)
+                ∙ f .others (at + 1 + k + 1 + i) (λ z. omega arith) (omega arith)
+                ∙ ap (bareAt us ds) q
+                ∙ mv .moved (at + 1 + i) (omega arith) (omega arith);
+          }
+
+-- as the code leaves them: each part is made of what stands in its slot
+pub cut-parts : (ws bs us ds vs cs vs₂ cs₂ vs₃ cs₃ : List ℕ) (at n k m lo : ℕ) (u : Num) (xs : List Bare) → lo ≡ at + 1 + k → n ≡ nodesOf ws → Cuts ws at m → Within ws bs (n + 1 + k)
+    → Moved ws bs us ds at n (1 + k) → Filled us ds vs cs at (frontOf m u (bareAt us ds at)) → length xs ≡ k → Built vs cs vs₂ cs₂ (at + 1) xs
+    → Filled vs₂ cs₂ vs₃ cs₃ lo (backOf m (bareAt vs₂ cs₂ lo))
+    → Replaced ws bs vs₃ cs₃ at 1 (frontOf m u (bareAt ws bs at) ∷ xs ++ (backOf m (bareAt ws bs at) ∷ []))
+cut-parts ws bs us ds vs cs vs₂ cs₂ vs₃ cs₃ at n k m lo u xs le e c w mv f l b g =
+    let f′ : Filled us ds vs cs at (frontOf m u (bareAt ws bs at)) = rw (upper-there ws bs us ds at n k m lo le e c w mv) at f in
+    let o = lower-then ws bs us ds at n k m lo le e c w mv vs cs (frontOf m u (bareAt ws bs at)) f′ vs₂ cs₂ xs l b in
+    cut-around ws bs us ds at n k m lo le e c w mv vs cs (frontOf m u (bareAt ws bs at)) f′ vs₂ cs₂ xs l b vs₃ cs₃ (backOf m (bareAt ws bs at)) (rw o at g)
+
+-- A cut with the records xs behind the subtree of its lower part, which ends at `end`
+module _ (ws bs us ds us₂ ds₂ : List ℕ) (at n k m end : ℕ) (e : n ≡ nodesOf ws) (c : Cuts ws at m) (w : Within ws bs (n + 1 + k)) (less : at < end) (most : end ≤ n)
+    (mv : Moved ws bs us ds end n (1 + k)) (mv₂ : Moved us ds us₂ ds₂ at end 1) where
+  pub high-upper : bareAt us₂ ds₂ at ≡ bareAt ws bs at
+  high-upper = mv₂ .low at (omega arith) ∙ mv .low at (omega arith)
+
+  -- what stood from `at` on stands one slot higher
+  higher : (i : ℕ) → at ≤ i → i < end → bareAt us₂ ds₂ (i + 1) ≡ bareAt ws bs i
+  higher i h l = mv₂ .moved i h l ∙ mv .low i (omega arith)
+
+  module _ (vs cs : List ℕ) (x : Bare) (f : Filled us₂ ds₂ vs cs at x) where
+    pub high-lower : bareAt vs cs (at + 1) ≡ bareAt ws bs at
+    high-lower = f .others (at + 1) (λ q. omega arith) (omega (arith, w .labels, mv .lenB, mv₂ .lenB)) ∙ higher at (omega arith) less
+
+    module _ (vs₂ cs₂ : List ℕ) (y : Bare) (g : Filled vs cs vs₂ cs₂ (at + 1) y) (vs₃ cs₃ : List ℕ) (xs : List Bare) (l : length xs ≡ k)
+        (b : Built vs₂ cs₂ vs₃ cs₃ (end + 1) xs) where
+      -- the slots behind the two parts, up to the end
+      kids-there : (i : ℕ) → i < end - (at + 1) → bareAt vs₃ cs₃ (at + 2 + i) ≡ bareAt ws bs (at + 1 + i)
+      kids-there i h =
+          let l₁ = mv .lenB in
+          let l₂ = mv₂ .lenB in
+          let l₃ = f .lenB in
+          let l₄ = g .lenB in
+          let wl = w .labels in
+          let j : at + 2 + i ≡ at + 1 + i + 1 = omega arith in
+          b .low (at + 2 + i) (omega arith) (omega arith)
+          ∙ g .others (at + 2 + i) (λ q. omega arith) (omega arith)
+          ∙ f .others (at + 2 + i) (λ q. omega arith) (omega arith)
+          ∙ ap (bareAt us₂ ds₂) j
+          ∙ higher (at + 1 + i) (omega arith) (omega arith)
+
+      pub cut-behind : Replaced ws bs vs₃ cs₃ at (end - at) (x ∷ (y ∷ baresFrom ws bs (at + 1) (end - (at + 1))) ++ xs)
+      cut-behind =
+          let l₁ = mv .lenB in
+          let l₂ = mv₂ .lenB in
+          let l₃ = f .lenB in
+          let l₄ = g .lenB in
+          let wl = w .labels in
+          let ks = baresFrom ws bs (at + 1) (end - (at + 1)) in
+          let lk : length ks ≡ end - (at + 1) = run-length (bareAt ws bs) (at + 1) (end - (at + 1)) in
+          let ll : length (x ∷ (y ∷ ks) ++ xs) ≡ suc (suc (length ks) + length xs) = ap suc (length-append (y ∷ ks) xs) in
+          let j : at + suc (suc (length ks)) ≡ end + 1 = omega arith in
+          let two : suc (at + 1) ≡ at + 2 = omega arith in
+          let y-there : bareAt vs₃ cs₃ (at + 1) ≡ y = b .low (at + 1) (omega arith) (omega arith) ∙ g .slot in
+          let ks-there : baresFrom vs₃ cs₃ (suc (at + 1)) (length ks) ≡ ks =
+          ap (λ (i : ℕ). baresFrom vs₃ cs₃ i (length ks)) two
+          ∙ ap (baresFrom vs₃ cs₃ (at + 2)) lk
+          ∙ run-ext (bareAt vs₃ cs₃) (bareAt ws bs) (at + 2) (at + 1) (end - (at + 1)) kids-there in
+          record {
+            lenW = b .lenW ∙ g .lenW ∙ f .lenW ∙ mv₂ .lenW ∙ mv .lenW;
+            lenB = b .lenB ∙ g .lenB ∙ f .lenB ∙ mv₂ .lenB ∙ mv .lenB;
+            front = λ i h.
+                b .low i (omega arith) (omega arith)
+                ∙ g .others i (λ q. omega arith) (omega arith)
+                ∙ f .others i (λ q. omega arith) (omega arith)
+                ∙ mv₂ .low i (omega arith)
+                ∙ mv .low i (omega arith);
+            slots =
+                ap (baresFrom vs₃ cs₃ at) ll
+                ∙ run-whole (bareAt vs₃ cs₃) at x (y ∷ ks) xs
+                (record {
+                  slot = b .low at (omega arith) (omega arith) ∙ g .others at (λ q. omega arith) (omega arith) ∙ f .slot;
+                  below = run-cons (bareAt vs₃ cs₃) (at + 1) (length ks) ∙ cc (y-there, ks-there);
+                  beside = ap (λ (i : ℕ). baresFrom vs₃ cs₃ i (length xs)) j ∙ b .slots;
+                });
+            back = λ i h.
+                let p : at + length (x ∷ (y ∷ ks) ++ xs) + i ≡ end + 1 + k + i = omega (arith, ll) in
+                let q : end + 1 + k + i ≡ end + i + (1 + k) = omega arith in
+                let z : end + i ≡ at + (end - at) + i = omega arith in
+                ap (bareAt vs₃ cs₃) p
+                ∙ b .high (end + 1 + k + i) (omega arith) (omega arith)
+                ∙ g .others (end + 1 + k + i) (λ o. omega arith) (omega arith)
+                ∙ f .others (end + 1 + k + i) (λ o. omega arith) (omega arith)
+                ∙ mv₂ .high (end + 1 + k + i) (omega arith) (omega arith)
+                ∙ ap (bareAt us ds) q
+                ∙ mv .moved (end + i) (omega arith) (omega arith)
+                ∙ ap (bareAt ws bs) z;
+          }
+
+-- as the code leaves them, where the subtree has so many nodes
+pub behind-parts : (ws bs us ds us₂ ds₂ vs cs vs₂ cs₂ vs₃ cs₃ : List ℕ) (at n k m span : ℕ) (xs : List Bare) → n ≡ nodesOf ws → Cuts ws at m → Within ws bs (n + 1 + k)
+    → 1 ≤ span → at + span ≤ n → Moved ws bs us ds (at + span) n (1 + k) → Moved us ds us₂ ds₂ at (at + span) 1
+    → Filled us₂ ds₂ vs cs at (frontOf m none (bareAt us₂ ds₂ at)) → Filled vs cs vs₂ cs₂ (at + 1) (backOf m (bareAt vs cs (at + 1)))
+    → length xs ≡ k → Built vs₂ cs₂ vs₃ cs₃ (at + span + 1) xs
+    → Replaced ws bs vs₃ cs₃ at span (frontOf m none (bareAt ws bs at) ∷ (backOf m (bareAt ws bs at) ∷ baresFrom ws bs (at + 1) (span - 1)) ++ xs)
+behind-parts ws bs us ds us₂ ds₂ vs cs vs₂ cs₂ vs₃ cs₃ at n k m span xs e c w one most mv mv₂ f g l b =
+    let h : at < at + span = omega arith in
+    let f′ : Filled us₂ ds₂ vs cs at (frontOf m none (bareAt ws bs at)) = rw (high-upper ws bs us ds us₂ ds₂ at n k m (at + span) e c w h most mv mv₂) at f in
+    let o = high-lower ws bs us ds us₂ ds₂ at n k m (at + span) e c w h most mv mv₂ vs cs (frontOf m none (bareAt ws bs at)) f′ in
+    let p : at + span - at ≡ span = omega arith in
+    let q : at + span - (at + 1) ≡ span - 1 = omega arith in
+    rw (p, q) at
+    (cut-behind ws bs us ds us₂ ds₂ at n k m (at + span) e c w h most mv mv₂ vs cs (frontOf m none (bareAt ws bs at)) f′ vs₂ cs₂ (backOf m (bareAt ws bs at)) (rw o at g) vs₃ cs₃ xs l b)
+
+-- The same with the leaf of a key, for the start and the span that the code has read
+module _ (ws bs us ds : List ℕ) (at n k m start : ℕ) (q : Key) (v : ℕ) (st : start ≡ startOf ws at) (e : n ≡ nodesOf ws) (c : Cuts ws at m) (w : Within ws bs (n + 1 + k))
+    (one : 1 ≤ length q) (kn : k ≡ leafNodes (length q)) where
+  leaf-count : length (leafBares (startOf ws at + m) q v) ≡ k
+  leaf-count = leaf-length (startOf ws at + m) q v one ∙ sym kn
+
+  pub forked-before : (vs cs vs₂ cs₂ vs₃ cs₃ : List ℕ) → Moved ws bs us ds at n (1 + k) → Filled us ds vs cs at (frontOf m none (bareAt us ds at))
+      → Built vs cs vs₂ cs₂ (at + 1) (leafBares (start + m) q v) → Filled vs₂ cs₂ vs₃ cs₃ (at + 1 + k) (backOf m (bareAt vs₂ cs₂ (at + 1 + k)))
+      → Replaced ws bs vs₃ cs₃ at 1 (forkBares ws bs at m q v true)
+  forked-before vs cs vs₂ cs₂ vs₃ cs₃ mv f b g =
+      cut-parts ws bs us ds vs cs vs₂ cs₂ vs₃ cs₃ at n k m (at + 1 + k) none (leafBares (startOf ws at + m) q v) refl e c w mv f leaf-count (rw st at b) g
+
+  pub forked-behind : (us₂ ds₂ vs cs vs₂ cs₂ vs₃ cs₃ : List ℕ) (span : ℕ) → span ≡ spanOf ws at → 1 ≤ span → at + span ≤ n
+      → Moved ws bs us ds (at + span) n (1 + k) → Moved us ds us₂ ds₂ at (at + span) 1
+      → Filled us₂ ds₂ vs cs at (frontOf m none (bareAt us₂ ds₂ at)) → Filled vs cs vs₂ cs₂ (at + 1) (backOf m (bareAt vs cs (at + 1)))
+      → Built vs₂ cs₂ vs₃ cs₃ (at + span + 1) (leafBares (start + m) q v) → Replaced ws bs vs₃ cs₃ at (spanOf ws at) (forkBares ws bs at m q v false)
+  forked-behind us₂ ds₂ vs cs vs₂ cs₂ vs₃ cs₃ span sp some most mv mv₂ f g b =
+      rw (← sp)
+      (behind-parts ws bs us ds us₂ ds₂ vs cs vs₂ cs₂ vs₃ cs₃ at n k m span (leafBares (startOf ws at + m) q v) e c w some most mv mv₂ f g leaf-count (rw st at b))

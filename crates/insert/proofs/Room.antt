@@ -1,0 +1,76 @@
+-- Each way of ending by itself: whether there is room, and what is then placed. Assumes nothing.
+use mathlib.Core.Path.{_≡_, refl, sym, ap, _∙_}
+use mathlib.Core.Bool.{Bool, true, false}
+use mathlib.Core.List.{List, [], _∷_, _++_}
+use mathlib.Core.Option.{none, some}
+use Prim.Native.Nat.{ℕ, zero, suc, _+_, _*_, _-_, _/_, _≤_, _<_}
+use native.Mathlib.Omega.{arith}
+use lib.Dec.{ltb}
+use lib.ListN.{length, getD, length-append}
+use Rattle.tree.specs.Key.{Key}
+use Rattle.tree.specs.Map.{Num}
+use Rattle.tree.specs.Image.{numbersW}
+use Rattle.tree.specs.Told.{Told, done, refusal}
+use Rattle.pool.specs.Layout.{nodesOf, lenOf, spanOf, labelOf, startOf}
+use Rattle.pool.specs.Pool.{slotsIn}
+use Rattle.pool.specs.Rule.{PoolRule}
+use Rattle.pool.specs.Splice.{Bare, bareAt, baresFrom, Filled, Settled, backOf}
+use Rattle.pool.proofs.Runs.{run-length}
+use Rattle.insert.specs.Splices.{leafNodes, leafBares, Replaced, forkBares, forkSide, forkWas, total, Placed, full, grown}
+use Rattle.insert.proofs.Leaves.{run-one, leaf-length}
+
+module _ (ws bs : List ℕ) (at was : ℕ) (xs : List Bare) (said : Told) (all : ℕ) (count : all ≡ total ws was xs) where
+  pub placed-full : length bs / 255 < all → Placed ws bs ws bs at was xs said (refusal 4)
+  placed-full h = full refl (omega arith) refl refl
+
+  pub placed-grown : (us vs cs : List ℕ) → all ≤ length bs / 255 → Replaced ws bs us cs at was xs → Settled us vs all → Placed ws bs vs cs at was xs said said
+  placed-grown us vs cs h r s = grown us refl (omega arith) r (rw count at s)
+
+-- A fork adds the upper part and the leaf.
+pub fork-count : (ws bs : List ℕ) (at m : ℕ) (q : Key) (v : ℕ) (b : Bool) → 1 ≤ length q → 1 ≤ spanOf ws at
+    → length (forkBares ws bs at m q v b) ≡ forkWas ws at b + 1 + leafNodes (length q)
+fork-count ws bs at m q v true h s =
+    let l = leafBares (startOf ws at + m) q v in
+    omega (arith, length-append l (backOf m (bareAt ws bs at) ∷ []), leaf-length (startOf ws at + m) q v h)
+fork-count ws bs at m q v false h s =
+    let l = leafBares (startOf ws at + m) q v in
+    let ks = baresFrom ws bs (at + 1) (spanOf ws at - 1) in
+    omega (arith, length-append (backOf m (bareAt ws bs at) ∷ ks) l, run-length (bareAt ws bs) (at + 1) (spanOf ws at - 1), leaf-length (startOf ws at + m) q v h)
+
+-- a fork on the side that the bytes say
+pub fork-on : (ws bs vs cs : List ℕ) (at m : ℕ) (q : Key) (v : ℕ) (b r : Bool) → r ≡ forkSide ws bs at m q → r ≡ b
+    → Replaced ws bs vs cs at (forkWas ws at b) (forkBares ws bs at m q v b)
+    → Replaced ws bs vs cs at (forkWas ws at (forkSide ws bs at m q)) (forkBares ws bs at m q v (forkSide ws bs at m q))
+fork-on ws bs vs cs at m q v b r e f h =
+    let z : b ≡ forkSide ws bs at m q = sym f ∙ e in
+    rw z at h
+
+-- the two bytes, as the code reads them
+pub side-is : (ws bs : List ℕ) (at m : ℕ) (q label : Key) → label ≡ labelOf ws bs at → ltb (getD q 0 0) (getD label m 0) ≡ forkSide ws bs at m q
+side-is ws bs at m q label e = ap (λ (l : Key). ltb (getD q 0 0) (getD l m 0)) e
+
+-- A slot filled anew stands where it stood.
+pub replaced-one : (ws bs vs cs : List ℕ) (at : ℕ) (x : Bare) → 255 * nodesOf ws ≤ length bs → at < nodesOf ws → Filled ws bs vs cs at x → Replaced ws bs vs cs at 1 (x ∷ [])
+replaced-one ws bs vs cs at x h l f =
+    record {
+      lenW = f .lenW;
+      lenB = f .lenB;
+      front = λ i o. f .others i (λ q. omega arith) (omega arith);
+      slots = run-one (bareAt vs cs) at ∙ ap (λ (z : Bare). z ∷ []) (f .slot);
+      back = λ i o. f .others (at + 1 + i) (λ q. omega arith) (omega arith);
+    }
+
+-- The old number, told
+pub told-new : (w : Num) → none ≡ w → done [] ≡ done (numbersW w [])
+unfolding numbersW
+told-new w e = rw (← e) refl
+
+pub told-old : (w : Num) (v : ℕ) → some v ≡ w → done (v ∷ []) ≡ done (numbersW w [])
+unfolding numbersW
+told-old w v e = rw (← e) refl
+
+pub number-placed : (ws bs us vs : List ℕ) (at n : ℕ) (x : Bare) (said told : Told) → PoolRule ws bs → n ≡ nodesOf ws → at < nodesOf ws → told ≡ said
+    → Filled ws bs us bs at x → Settled us vs n → Placed ws bs vs bs at 1 (x ∷ []) said told
+number-placed ws bs us vs at n x said told r e l t f s =
+    let c : n ≡ total ws 1 (x ∷ []) = omega arith in
+    grown us t (omega (arith, r .lengths, r .room)) (replaced-one ws bs us bs at x (omega (arith, r .lengths, r .room)) l f) (rw c at s)

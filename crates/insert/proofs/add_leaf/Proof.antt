@@ -1,0 +1,59 @@
+-- `insert::add_leaf` meets its contract. Assumes nothing.
+use native.Mathlib.Omega.{arith}
+use Rattle.tree.specs.Told.{done}
+use mathlib.Core.List.{[]}
+use Rattle.insert.specs.Splices.{leafBares}
+use Rattle.insert.proofs.Leaves.{leaf-length}
+use Rattle.insert.proofs.Room.{placed-full, placed-grown}
+use borrow.Author.Needs.{needs}
+use Rattle.insert.proofs.add_leaf.Statement.{statement}
+use Rattle.insert.proofs.add_leaf.Tie as tie
+
+nodes-in-requires : tie.Need-nodes-in-requires
+nodes-in-requires c κs = search needs
+
+chain-nodes-requires : tie.Need-chain-nodes-requires
+chain-nodes-requires c κs = search needs
+
+add-all : tie.Need-add-all
+add-all c = search needs
+
+same-length : tie.Need-same-length
+same-length c = search needs
+
+returns : tie.Need-returns
+returns c =
+    let a = c .before .before .before .before .before .before .before .args in
+    placed-full _ _ _ _ (leafBares (a .start) (a .rest .now) (a .number .0)) (done []) _ (omega (arith, leaf-length (a .start) (a .rest .now) (a .number .0) (omega arith))) (c .if1 .taken)
+
+open-leaf-requires : tie.Need-open-leaf-requires
+open-leaf-requires c κs = search needs
+
+settle-requires : tie.Need-settle-requires
+settle-requires c κs = search needs
+
+same-length-2 : tie.Need-same-length-2
+same-length-2 c = search needs
+
+same-length-3 : tie.Need-same-length-3
+same-length-3 c = search needs
+
+returns-2 : tie.Need-returns-2
+returns-2 c =
+    let a = c .before .before .before .before .before .before .before .before .before .before .before .before .before .before .before .before .before .before .args in
+    placed-grown _ _ _ _ (leafBares (a .start) (a .rest .now) (a .number .0)) (done []) _ (omega (arith, leaf-length (a .start) (a .rest .now) (a .number .0) (omega arith))) _ _ _ (c .before .before .before .before .before .before .before .before .before .before .before .if1 .left) (c .before .before .before .before .before .before .before .before .open-leaf .ensures) (c .before .before .settle .ensures)
+
+pub add-leaf-spec : {M : Type 1} → statement M
+add-leaf-spec =
+    tie.close
+    (tie.spec
+    nodes-in-requires
+    chain-nodes-requires
+    add-all
+    same-length
+    returns
+    open-leaf-requires
+    settle-requires
+    same-length-2
+    same-length-3
+    returns-2)

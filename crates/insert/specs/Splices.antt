@@ -1,0 +1,83 @@
+-- What the parts of insert leave in a pool, record by record: ws and bs before, vs and cs after.
+use mathlib.Core.Path.{_≡_}
+use mathlib.Core.List.{List, [], _∷_, _++_}
+use mathlib.Core.Bool.{Bool, true, false}
+use mathlib.Core.Option.{none, some}
+use Prim.Native.Nat.{ℕ, suc, _+_, _*_, _-_, _/_, _≤_, _<_}
+use lib.Dec.{ltb}
+use lib.ListN.{length, getD}
+use Rattle.tree.specs.Key.{Key}
+use Rattle.tree.specs.Map.{Num}
+use Rattle.tree.specs.Tree.{nil}
+use Rattle.tree.specs.Insert.{leaf}
+use Rattle.tree.specs.Told.{Told, refusal}
+use Rattle.pool.specs.Layout.{nodesOf, startOf, lenOf, spanOf, labelOf}
+use Rattle.pool.specs.Pool.{slotsIn}
+use Rattle.pool.specs.Splice.{Bare, bareAt, baresFrom, baresF, frontOf, backOf, Settled}
+
+-- The nodes of a new label of so many bytes: 255 are one node, 256 are two.
+abbrev pub leafNodes : (len : ℕ) → ℕ
+leafNodes len = (len - 1) / 255 + 1
+
+-- The records of a new leaf for the bytes q, under a path of s bytes
+abbrev pub leafBares : (s : ℕ) (q : Key) (v : ℕ) → List Bare
+leafBares s [] v = []
+leafBares s (a ∷ k) v = baresF s (leaf a k v nil)
+
+-- The slots from `at` on say xs, and every other slot what it said.
+pub record Built (ws bs vs cs : List ℕ) (at : ℕ) (xs : List Bare) : Type 0 where
+  pub lenW : length vs ≡ length ws
+  pub lenB : length cs ≡ length bs
+  pub head : (j : ℕ) → j < 8 → getD vs j 0 ≡ getD ws j 0
+  pub slots : baresFrom vs cs at (length xs) ≡ xs
+  pub low : (i : ℕ) → i < at → 255 * i + 255 ≤ length bs → bareAt vs cs i ≡ bareAt ws bs i
+  pub high : (i : ℕ) → at + length xs ≤ i → 255 * i + 255 ≤ length bs → bareAt vs cs i ≡ bareAt ws bs i
+
+-- Slot `at` is in use, and its label can be cut behind m bytes.
+pub record Cuts (ws : List ℕ) (at m : ℕ) : Type 0 where
+  pub used : at < nodesOf ws
+  pub cut : m ≤ lenOf ws at
+  pub short : lenOf ws at ≤ 255
+  pub start : startOf ws at ≤ 4096
+
+-- From slot `at` on the records xs stand where `was` slots stood; what is before them stays, and so does what is behind.
+pub record Replaced (ws bs vs cs : List ℕ) (at was : ℕ) (xs : List Bare) : Type 0 where
+  pub lenW : length vs ≡ length ws
+  pub lenB : length cs ≡ length bs
+  pub front : (i : ℕ) → i < at → bareAt vs cs i ≡ bareAt ws bs i
+  pub slots : baresFrom vs cs at (length xs) ≡ xs
+  pub back : (i : ℕ) → i < nodesOf ws - (at + was) → bareAt vs cs (at + length xs + i) ≡ bareAt ws bs (at + was + i)
+
+-- Slot `at` cut behind m bytes where a key forks off, with the leaf of what is left of the key: before the lower part, or
+-- behind its subtree
+abbrev pub forkBares : (ws bs : List ℕ) (at m : ℕ) (q : Key) (v : ℕ) (below : Bool) → List Bare
+forkBares ws bs at m q v true = frontOf m none (bareAt ws bs at) ∷ leafBares (startOf ws at + m) q v ++ (backOf m (bareAt ws bs at) ∷ [])
+forkBares ws bs at m q v false =
+    frontOf m none (bareAt ws bs at) ∷ (backOf m (bareAt ws bs at) ∷ baresFrom ws bs (at + 1) (spanOf ws at - 1)) ++ leafBares (startOf ws at + m) q v
+
+-- On which side: whether the key's next byte is below the label's
+abbrev pub forkSide : (ws bs : List ℕ) (at m : ℕ) (q : Key) → Bool
+forkSide ws bs at m q = ltb (getD q 0 0) (getD (labelOf ws bs at) m 0)
+
+-- What is asked of slot `at` where q, behind m bytes of its label, forks off
+pub record Forks (ws : List ℕ) (at m : ℕ) (q : Key) : Type 0 where
+  pub cuts : Cuts ws at m
+  pub less : m < lenOf ws at
+  pub some : 1 ≤ length q
+  pub deep : startOf ws at + m + length q ≤ 4096
+  pub span : 1 ≤ spanOf ws at
+  pub inside : at + spanOf ws at ≤ nodesOf ws
+
+-- The slots that it stands for
+abbrev pub forkWas : (ws : List ℕ) (at : ℕ) (below : Bool) → ℕ
+forkWas ws at true = 1
+forkWas ws at false = spanOf ws at
+
+-- How many nodes there are then
+abbrev pub total : (ws : List ℕ) (was : ℕ) (xs : List Bare) → ℕ
+total ws was xs = nodesOf ws + length xs - was
+
+-- Either there is no room, and nothing has changed; or xs stand in their place, `said` is told, and the pool is settled.
+pub data Placed (ws bs vs cs : List ℕ) (at was : ℕ) (xs : List Bare) (said told : Told) : Type 0 where
+  full : told ≡ refusal 4 → slotsIn bs < total ws was xs → vs ≡ ws → cs ≡ bs → Placed ws bs vs cs at was xs said told
+  grown : (us : List ℕ) → told ≡ said → total ws was xs ≤ slotsIn bs → Replaced ws bs us cs at was xs → Settled us vs (total ws was xs) → Placed ws bs vs cs at was xs said told

@@ -1,0 +1,255 @@
+// Insert: the key is looked up, and the tree grows where the search has come to, by a leaf, a cut or both. A splice moves
+// each record behind the place once; then the spans are put right. Counterparts: `insert`, `split_at` and `new` of the Rust.
+ghost use mathlib.Core.Path.{_≡_};
+ghost use mathlib.Core.Bool.{true, false};
+ghost use mathlib.Core.List.{List, [], _∷_};
+ghost use mathlib.Core.Option.{some};
+ghost use Prim.Native.Nat.{ℕ, _+_, _*_, _≤_, _<_};
+ghost use lib.ListN.{length};
+ghost use Rattle.tree.specs.Key.{keyMax};
+ghost use Rattle.tree.specs.Image.{numbersW};
+ghost use Rattle.tree.specs.Told.{done, insertedTold};
+ghost use Rattle.tree.specs.Calls.{insertCall};
+ghost use Rattle.pool.specs.Pool.{poolTree, slotsIn};
+ghost use Rattle.pool.specs.Post.{Meets};
+ghost use Rattle.pool.specs.Layout.{nodesOf, startOf, lenOf, spanOf, numAt};
+ghost use Rattle.pool.specs.Rule.{Within, PoolRule};
+ghost use Rattle.pool.specs.Splice.{bareAt, frontOf, backOf};
+ghost use Rattle.insert.specs.Splices.{leafNodes, leafBares, Built, Cuts, Replaced, Forks, forkBares, forkSide, forkWas, Placed};
+use pool::splice::Stored;
+use search::Stop;
+use tree::Inserted;
+use tree::RuleNo;
+use tree::Slot;
+
+// How many nodes a new label of `len` bytes takes.
+fn chain_nodes(len: usize) -> usize
+    requires { ⌜ 1 ≤ len ⌝ }
+    ensures { λ r. ⌜ r ≡ leafNodes len ⌝ }
+{
+    (len - 1) / 255 + 1
+}
+
+// Fills the slots from `at` on with a new leaf: a label over 255 bytes becomes 255 bytes without a number, over the rest
+// treated again in that way. Counterpart: `new`.
+fn chain(labels: &mut [u8], words: &mut [u32], at: Slot, start: usize, rest: &[u8], number: RuleNo)
+    requires { ⌜ Within (now words) (now labels) (at .0 + leafNodes (length (now rest))) × (1 ≤ length (now rest)) × (start + length (now rest) ≤ 4096) ⌝ }
+    ensures { λ _. ⌜ Built (now (words .entry)) (now (labels .entry)) (now (words .exit)) (now (labels .exit)) (at .0) (leafBares start (now (rest .entry)) (number .0)) ⌝ }
+{
+    if rest.len() <= 255 {
+        pool::splice::put_node(labels, words, at, start, rest, Stored::Number(number));
+        return;
+    }
+    pool::splice::put_node(labels, words, at, start, &rest[0..255], Stored::Nothing);
+    let next = at.0 + 1;
+    chain(labels, words, Slot(next), start + 255, &rest[255..], number);
+}
+
+// Opens a gap at the slot, and builds a new leaf in it.
+fn open_leaf(
+    labels: &mut [u8],
+    words: &mut [u32],
+    at: Slot,
+    start: usize,
+    rest: &[u8],
+    number: RuleNo,
+)
+    requires { ⌜ Within (now words) (now labels) (nodesOf (now words) + leafNodes (length (now rest))) × (at .0 ≤ nodesOf (now words)) × (1 ≤ length (now rest)) × (start + length (now rest) ≤ 4096) ⌝ }
+    ensures { λ _. ⌜ Replaced (now (words .entry)) (now (labels .entry)) (now (words .exit)) (now (labels .exit)) (at .0) 0 (leafBares start (now (rest .entry)) (number .0)) ⌝ }
+{
+    let n = pool::nodes_in(words);
+    let k = chain_nodes(rest.len());
+    pool::splice::move_slots(labels, words, at, Slot(n), k);
+    chain(labels, words, at, start, rest, number);
+}
+
+// Cuts the label of the slot behind m bytes: the upper part gets the number, the lower part keeps what was there.
+// Counterpart: `split_at`.
+fn cut_label(labels: &mut [u8], words: &mut [u32], at: Slot, m: usize, number: RuleNo)
+    requires { ⌜ Within (now words) (now labels) (nodesOf (now words) + 1) × Cuts (now words) (at .0) m ⌝ }
+    ensures { λ _. ⌜ Replaced (now (words .entry)) (now (labels .entry)) (now (words .exit)) (now (labels .exit)) (at .0) 1 (frontOf m (some (number .0)) (bareAt (now (words .entry)) (now (labels .entry)) (at .0)) ∷ backOf m (bareAt (now (words .entry)) (now (labels .entry)) (at .0)) ∷ []) ⌝ }
+{
+    let n = pool::nodes_in(words);
+    let lower = at.0 + 1;
+    pool::splice::move_slots(labels, words, at, Slot(n), 1);
+    pool::splice::keep_front(words, at, m, Stored::Number(number));
+    pool::splice::keep_back(labels, words, Slot(lower), m);
+}
+
+// Cuts the label of the slot behind m bytes, with a new leaf before the lower part.
+fn fork_before(
+    labels: &mut [u8],
+    words: &mut [u32],
+    at: Slot,
+    m: usize,
+    rest: &[u8],
+    number: RuleNo,
+)
+    requires { ⌜ Within (now words) (now labels) (nodesOf (now words) + 1 + leafNodes (length (now rest))) × Cuts (now words) (at .0) m × (1 ≤ length (now rest)) × (startOf (now words) (at .0) + m + length (now rest) ≤ 4096) ⌝ }
+    ensures { λ _. ⌜ Replaced (now (words .entry)) (now (labels .entry)) (now (words .exit)) (now (labels .exit)) (at .0) 1 (forkBares (now (words .entry)) (now (labels .entry)) (at .0) m (now (rest .entry)) (number .0) true) ⌝ }
+{
+    let n = pool::nodes_in(words);
+    let k = chain_nodes(rest.len());
+    let start = pool::start_at(words, at) + m;
+    let next = at.0 + 1;
+    let lower = next + k;
+    pool::splice::move_slots(labels, words, at, Slot(n), 1 + k);
+    pool::splice::keep_front(words, at, m, Stored::Nothing);
+    chain(labels, words, Slot(next), start, rest, number);
+    pool::splice::keep_back(labels, words, Slot(lower), m);
+}
+
+// The same, with the new leaf behind the lower part and its subtree, which end at `end`.
+fn fork_behind(
+    labels: &mut [u8],
+    words: &mut [u32],
+    at: Slot,
+    m: usize,
+    rest: &[u8],
+    number: RuleNo,
+)
+    requires { ⌜ Within (now words) (now labels) (nodesOf (now words) + 1 + leafNodes (length (now rest))) × Cuts (now words) (at .0) m × (1 ≤ length (now rest)) × (startOf (now words) (at .0) + m + length (now rest) ≤ 4096) × (1 ≤ spanOf (now words) (at .0)) × (at .0 + spanOf (now words) (at .0) ≤ nodesOf (now words)) ⌝ }
+    ensures { λ _. ⌜ Replaced (now (words .entry)) (now (labels .entry)) (now (words .exit)) (now (labels .exit)) (at .0) (spanOf (now (words .entry)) (at .0)) (forkBares (now (words .entry)) (now (labels .entry)) (at .0) m (now (rest .entry)) (number .0) false) ⌝ }
+{
+    let n = pool::nodes_in(words);
+    let k = chain_nodes(rest.len());
+    let start = pool::start_at(words, at) + m;
+    let lower = at.0 + 1;
+    let end = at.0 + pool::span_at(words, at);
+    pool::splice::move_slots(labels, words, Slot(end), Slot(n), 1 + k);
+    pool::splice::move_slots(labels, words, at, Slot(end), 1);
+    pool::splice::keep_front(words, at, m, Stored::Nothing);
+    pool::splice::keep_back(labels, words, Slot(lower), m);
+    chain(labels, words, Slot(end + 1), start, rest, number);
+}
+
+// Whether the first byte of `rest` is below the byte of the slot's label behind its first m.
+fn byte_below(labels: &[u8], words: &[u32], at: Slot, m: usize, rest: &[u8]) -> bool
+    requires { ⌜ Within (now words) (now labels) (at .0 + 1) × (m < lenOf (now words) (at .0)) × (lenOf (now words) (at .0) ≤ 255) × (1 ≤ length (now rest)) ⌝ }
+    ensures { λ r. ⌜ r ≡ forkSide (now (words .entry)) (now (labels .entry)) (at .0) m (now (rest .entry)) ⌝ }
+{
+    let label = pool::label_at(labels, words, at);
+    rest[0] < label[m]
+}
+
+// Cuts the label of the slot behind m bytes, with a new leaf beside the lower part, in the order of their first bytes.
+fn fork_label(labels: &mut [u8], words: &mut [u32], at: Slot, m: usize, rest: &[u8], number: RuleNo)
+    requires { ⌜ Within (now words) (now labels) (nodesOf (now words) + 1 + leafNodes (length (now rest))) × Forks (now words) (at .0) m (now rest) ⌝ }
+    ensures { λ _. ⌜ Replaced (now (words .entry)) (now (labels .entry)) (now (words .exit)) (now (labels .exit)) (at .0) (forkWas (now (words .entry)) (at .0) (forkSide (now (words .entry)) (now (labels .entry)) (at .0) m (now (rest .entry)))) (forkBares (now (words .entry)) (now (labels .entry)) (at .0) m (now (rest .entry)) (number .0) (forkSide (now (words .entry)) (now (labels .entry)) (at .0) m (now (rest .entry)))) ⌝ }
+{
+    if byte_below(labels, words, at, m, rest) {
+        fork_before(labels, words, at, m, rest, number);
+        return;
+    }
+    fork_behind(labels, words, at, m, rest, number);
+}
+
+// The key ends at the slot: its number is set, and the old one given back.
+fn set_number(words: &mut [u32], at: Slot, number: RuleNo) -> Inserted
+    requires { ⌜ (6 * nodesOf (now words) + 8 ≤ length (now words)) × (nodesOf (now words) ≤ 16384) × (at .0 < nodesOf (now words)) × (lenOf (now words) (at .0) ≤ 255) ⌝ }
+    ensures { λ r. ⌜ ((bs : List ℕ) → PoolRule (now (words .entry)) bs → Placed (now (words .entry)) bs (now (words .exit)) bs (at .0) 1 (frontOf (lenOf (now (words .entry)) (at .0)) (some (number .0)) (bareAt (now (words .entry)) bs (at .0)) ∷ []) (done (numbersW (numAt (now (words .entry)) (at .0)) [])) (insertedTold r)) ⌝ }
+{
+    let n = pool::nodes_in(words);
+    let len = pool::len_at(words, at);
+    let old = pool::splice::stored_at(words, at);
+    pool::splice::keep_front(words, at, len, Stored::Number(number));
+    pool::splice::settle(words, n);
+    match old {
+        Stored::Nothing => Inserted::New,
+        Stored::Number(v) => Inserted::Replaced(v),
+    }
+}
+
+// No node begins with the key's next byte: a new leaf stands at the slot, if there is room.
+fn add_leaf(
+    labels: &mut [u8],
+    words: &mut [u32],
+    at: Slot,
+    start: usize,
+    rest: &[u8],
+    number: RuleNo,
+) -> Inserted
+    requires { ⌜ PoolRule (now words) (now labels) × (at .0 ≤ nodesOf (now words)) × (1 ≤ length (now rest)) × (start + length (now rest) ≤ 4096) ⌝ }
+    ensures { λ r. ⌜ Placed (now (words .entry)) (now (labels .entry)) (now (words .exit)) (now (labels .exit)) (at .0) 0 (leafBares start (now (rest .entry)) (number .0)) (done []) (insertedTold r) ⌝ }
+{
+    let n = pool::nodes_in(words);
+    let all = n + chain_nodes(rest.len());
+    if all > labels.len() / 255 {
+        return Inserted::NoRoom;
+    }
+    open_leaf(labels, words, at, start, rest, number);
+    pool::splice::settle(words, all);
+    Inserted::New
+}
+
+// The key ends inside the slot's label, which is cut there, if there is room.
+fn add_cut(labels: &mut [u8], words: &mut [u32], at: Slot, m: usize, number: RuleNo) -> Inserted
+    requires { ⌜ PoolRule (now words) (now labels) × Cuts (now words) (at .0) m ⌝ }
+    ensures { λ r. ⌜ Placed (now (words .entry)) (now (labels .entry)) (now (words .exit)) (now (labels .exit)) (at .0) 1 (frontOf m (some (number .0)) (bareAt (now (words .entry)) (now (labels .entry)) (at .0)) ∷ backOf m (bareAt (now (words .entry)) (now (labels .entry)) (at .0)) ∷ []) (done []) (insertedTold r) ⌝ }
+{
+    let n = pool::nodes_in(words);
+    let all = n + 1;
+    if all > labels.len() / 255 {
+        return Inserted::NoRoom;
+    }
+    cut_label(labels, words, at, m, number);
+    pool::splice::settle(words, all);
+    Inserted::New
+}
+
+// The key forks off inside the slot's label, if there is room.
+fn add_fork(
+    labels: &mut [u8],
+    words: &mut [u32],
+    at: Slot,
+    m: usize,
+    rest: &[u8],
+    number: RuleNo,
+) -> Inserted
+    requires { ⌜ PoolRule (now words) (now labels) × Forks (now words) (at .0) m (now rest) ⌝ }
+    ensures { λ r. ⌜ Placed (now (words .entry)) (now (labels .entry)) (now (words .exit)) (now (labels .exit)) (at .0) (forkWas (now (words .entry)) (at .0) (forkSide (now (words .entry)) (now (labels .entry)) (at .0) m (now (rest .entry)))) (forkBares (now (words .entry)) (now (labels .entry)) (at .0) m (now (rest .entry)) (number .0) (forkSide (now (words .entry)) (now (labels .entry)) (at .0) m (now (rest .entry)))) (done []) (insertedTold r) ⌝ }
+{
+    let n = pool::nodes_in(words);
+    let all = n + 1 + chain_nodes(rest.len());
+    if all > labels.len() / 255 {
+        return Inserted::NoRoom;
+    }
+    fork_label(labels, words, at, m, rest, number);
+    pool::splice::settle(words, all);
+    Inserted::New
+}
+
+// `insert` in a pool that has been tested, of a key that is not too long. The key is looked up first, so that setting a
+// stored one never needs room; the room is tested before anything is written.
+pub fn insert_in(labels: &mut [u8], words: &mut [u32], key: &[u8], number: RuleNo) -> Inserted
+    requires { ⌜ PoolRule (now words) (now labels) × (length (now key) ≤ keyMax) ⌝ }
+    ensures { λ r. ⌜ Meets (insertCall (poolTree (now (words .entry)) (now (labels .entry))) (slotsIn (now (labels .entry))) (now (key .entry)) (number .0)) (insertedTold r) (now (words .entry)) (now (labels .entry)) (now (words .exit)) (now (labels .exit)) ⌝ }
+{
+    let d = search::descend(labels, words, key);
+    let at = d.at;
+    let above = d.above;
+    let stop = d.stop;
+    match stop {
+        Stop::Root => set_number(words, at, number),
+        Stop::Gap => add_leaf(labels, words, at, above, &key[above..], number),
+        Stop::Same => set_number(words, at, number),
+        Stop::Inside(m) => add_cut(labels, words, at, m, number),
+        Stop::Fork(m) => {
+            let from = above + m;
+            add_fork(labels, words, at, m, &key[from..], number)
+        }
+    }
+}
+
+// Stores the number at the key, and gives the old one, if any. Counterpart: `insert`.
+pub fn insert(labels: &mut [u8], words: &mut [u32], key: &[u8], number: RuleNo) -> Inserted
+    ensures { λ r. ⌜ Meets (insertCall (poolTree (now (words .entry)) (now (labels .entry))) (slotsIn (now (labels .entry))) (now (key .entry)) (number .0)) (insertedTold r) (now (words .entry)) (now (labels .entry)) (now (words .exit)) (now (labels .exit)) ⌝ }
+{
+    if !pool::is_pool(labels, words) {
+        return Inserted::NotPool;
+    }
+    if key.len() > 4096 {
+        return Inserted::TooLong;
+    }
+    insert_in(labels, words, key, number)
+}

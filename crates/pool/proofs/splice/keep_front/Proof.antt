@@ -1,0 +1,21 @@
+-- `pool::splice::keep_front` meets its contract. Assumes nothing.
+use native.Mathlib.Omega.{arith}
+use Rattle.pool.proofs.Cuts.{front-kept}
+use borrow.Author.Needs.{needs}
+use Rattle.pool.proofs.splice.keep_front.Statement.{statement}
+use Rattle.pool.proofs.splice.keep_front.Tie as tie
+
+start-at-requires : tie.Need-start-at-requires
+start-at-requires c κs = search needs
+
+put-head-requires : tie.Need-put-head-requires
+put-head-requires c κs = search needs
+
+same-length : tie.Need-same-length
+same-length c = search needs
+
+returns : tie.Need-returns
+returns c = λ bs h. front-kept _ bs _ (omega arith) h _ (omega arith) (omega arith) _ _ _ (c .before .before .before .before .start-at .ensures .0) (c .before .before .put-head .ensures)
+
+pub keep-front-spec : {M : Type 1} → statement M
+keep-front-spec = tie.close (tie.spec start-at-requires put-head-requires same-length returns)

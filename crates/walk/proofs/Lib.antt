@@ -1,0 +1,9 @@
+pub mod Due
+pub mod Path
+pub mod Listed
+pub mod Sought
+pub mod Padded
+pub mod Answers
+pub mod Whole
+pub mod Decided
+pub mod Course

@@ -1,0 +1,3 @@
+pub mod Due
+pub mod Walks
+pub mod Whole
