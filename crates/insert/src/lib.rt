@@ -221,7 +221,7 @@ fn add_fork(
 
 // `insert` in a pool that has been tested, of a key that is not too long. The key is looked up first, so that setting a
 // stored one never needs room; the room is tested before anything is written.
-pub fn insert_in(labels: &mut [u8], words: &mut [u32], key: &[u8], number: RuleNo) -> Inserted
+fn insert_in(labels: &mut [u8], words: &mut [u32], key: &[u8], number: RuleNo) -> Inserted
     requires { ⌜ PoolRule (now words) (now labels) × (length (now key) ≤ keyMax) ⌝ }
     ensures { λ r. ⌜ Meets (insertCall (poolTree (now (words .entry)) (now (labels .entry))) (slotsIn (now (labels .entry))) (now (key .entry)) (number .0)) (insertedTold r) (now (words .entry)) (now (labels .entry)) (now (words .exit)) (now (labels .exit)) ⌝ }
 {

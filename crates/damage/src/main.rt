@@ -1,0 +1,196 @@
+// A dozen images, each cut at every place and changed in every byte to every value, read into a pool of six slots. The
+// listed verdicts were made from document 01's order of tests by another hand than the reader. A line of a byte has each
+// verdict behind the first value that gets it.
+use libc::STDOUT_FILENO;
+use tree::Loaded;
+use tree::RuleNo;
+use tree::Written;
+
+fn text(s: &[u8]) {
+    io::write_all(STDOUT_FILENO, s);
+}
+
+// A number behind a space.
+fn value(n: u64) {
+    text(b" ");
+    io::print_decimal(STDOUT_FILENO, n);
+}
+
+// The offset that a verdict has, or 0.
+fn offset_of(answer: Loaded) -> usize {
+    match answer {
+        Loaded::Done | Loaded::NotPool | Loaded::PathTooLong | Loaded::NoRoom => 0,
+        Loaded::CutShort(at) => at,
+        Loaded::FlagByte(at) => at,
+        Loaded::WrongLevel(at) => at,
+        Loaded::LabelLength(at) => at,
+        Loaded::SiblingOrder(at) => at,
+        Loaded::IdleNode(at) => at,
+        Loaded::NumberCount(at) => at,
+        Loaded::BytesLeft(at) => at,
+    }
+}
+
+// The number of a verdict, and the offset of those that have one.
+fn verdict(answer: Loaded) {
+    let number = answer.number();
+    value(number as u64);
+    if number > 4 {
+        text(b" at");
+        value(offset_of(answer) as u64);
+    }
+}
+
+fn same(a: Loaded, b: Loaded) -> bool {
+    if a.number() != b.number() {
+        return false;
+    }
+    offset_of(a) == offset_of(b)
+}
+
+// Reads an image into six slots of their own.
+fn read(image: &[u8], numbers: &[u32]) -> Loaded {
+    let mut labels = [0u8; 1530];
+    let mut words = [0u32; 44];
+    reader::read(&mut labels, &mut words, image, numbers)
+}
+
+// Reads the first n bytes, of an image that has so many.
+fn read_front(image: &[u8], numbers: &[u32], n: usize) -> Loaded {
+    if n > image.len() {
+        return Loaded::NotPool;
+    }
+    read(&image[0..n], numbers)
+}
+
+fn byte_at(image: &[u8], at: usize) -> u8 {
+    if at < image.len() {
+        return image[at];
+    }
+    0
+}
+
+fn set_byte(image: &mut [u8], at: usize, byte: u8) {
+    if at < image.len() {
+        image[at] = byte;
+    }
+}
+
+fn cut(image: &[u8], numbers: &[u32], n: usize) {
+    text(b"cut");
+    value(n as u64);
+    text(b":");
+    verdict(read_front(image, numbers, n));
+    text(b"\n");
+}
+
+fn cuts(image: &[u8], numbers: &[u32]) {
+    let mut n: usize = 0;
+    while n < image.len() {
+        cut(image, numbers, n);
+        n += 1;
+    }
+    cut(image, numbers, n);
+}
+
+// The verdict on one value of a byte, printed if it is another than the last.
+fn tell(byte: u8, answer: Loaded, last: Loaded) -> Loaded {
+    if !same(answer, last) {
+        value(byte as u64);
+        text(b" ->");
+        verdict(answer);
+        text(b",");
+    }
+    answer
+}
+
+// Every value of the byte at a place. No image here gets NotPool, so the first verdict is printed.
+fn values(image: &mut [u8], numbers: &[u32], at: usize) {
+    let was = byte_at(image, at);
+    let mut last = Loaded::NotPool;
+    let mut v: usize = 0;
+    while v < 256 {
+        set_byte(image, at, v as u8);
+        last = tell(v as u8, read(image, numbers), last);
+        v += 1;
+    }
+    set_byte(image, at, was);
+}
+
+fn place(image: &mut [u8], numbers: &[u32], at: usize) {
+    text(b"byte");
+    value(at as u64);
+    text(b":");
+    values(image, numbers, at);
+    text(b"\n");
+}
+
+fn changes(image: &mut [u8], numbers: &[u32]) {
+    let n = image.len();
+    let mut at: usize = 0;
+    while at < n {
+        place(image, numbers, at);
+        at += 1;
+    }
+}
+
+// Cuts and changes the first n bytes.
+fn damage_front(image: &mut [u8], numbers: &[u32], n: usize) {
+    if n <= image.len() {
+        cuts(&image[0..n], numbers);
+        changes(&mut image[0..n], numbers);
+    }
+}
+
+// The image of the tree that a pool holds, cut and changed.
+fn damage(labels: &[u8], words: &[u32]) {
+    let mut image = [0u8; 64];
+    let mut numbers = [0u32; 8];
+    if let Written::Lengths(n, k) = writer::write(labels, words, &mut image, &mut numbers) {
+        text(b"image");
+        value(n as u64);
+        value(k as u64);
+        text(b"\n");
+        if k <= 8 {
+            damage_front(&mut image, &numbers[0..k], n);
+        }
+    }
+}
+
+fn put(labels: &mut [u8], words: &mut [u32], key: &[u8], v: u32) {
+    insert::insert(labels, words, key, RuleNo(v));
+}
+
+// The image of the tree of up to four keys; one that is given twice is stored once.
+fn tree_of(a: &[u8], b: &[u8], c: &[u8], d: &[u8]) {
+    let mut labels = [0u8; 4080];
+    let mut words = [0u32; 104];
+    pool::make(&mut labels, &mut words);
+    put(&mut labels, &mut words, a, 1);
+    put(&mut labels, &mut words, b, 2);
+    put(&mut labels, &mut words, c, 3);
+    put(&mut labels, &mut words, d, 4);
+    damage(&labels, &words);
+}
+
+fn empty_tree() {
+    let mut labels = [0u8; 255];
+    let mut words = [0u32; 14];
+    pool::make(&mut labels, &mut words);
+    damage(&labels, &words);
+}
+
+fn main() {
+    empty_tree();
+    tree_of(b"", b"", b"", b"");
+    tree_of(b"a", b"a", b"a", b"a");
+    tree_of(b"", b"a", b"a", b"a");
+    tree_of(b"ab", b"ac", b"ac", b"ac");
+    tree_of(b"a", b"abc", b"abc", b"abc");
+    tree_of(b"a", b"b", b"c", b"c");
+    tree_of(b"a", b"ab", b"abc", b"abc");
+    tree_of(&[0], &[255], &[255], &[255]);
+    tree_of(b"ab", b"abc", b"b", b"b");
+    tree_of(b"/shop/cart", b"/shop/sale", b"/shop/sale", b"/shop/sale");
+    tree_of(b"aa", b"ab", b"ba", b"bb");
+}
