@@ -1,5 +1,5 @@
 // A dozen images, each cut at every place and changed in every byte to every value, read into a pool of six slots. The
-// listed verdicts were made from document 01's order of tests by another hand than the reader. A line of a byte has each
+// listed verdicts come from `bench/verdicts`, a second reader that shares no code with ours. A line of a byte has each
 // verdict behind the first value that gets it.
 use libc::STDOUT_FILENO;
 use tree::Loaded;
