@@ -29,7 +29,7 @@ module _ (ws bs : List ℕ) (at : ℕ) (short : lenOf ws at ≤ 255) (inB : 255 
   pub label-length : length (labelOf ws bs at) ≡ lenOf ws at
   label-length = simp (length-take, length-drop) (omega arith)
 
-  label-get : (o : ℕ) → o < lenOf ws at → getD (labelOf ws bs at) o 0 ≡ getD bs (255 * at + o) 0
+  pub label-get : (o : ℕ) → o < lenOf ws at → getD (labelOf ws bs at) o 0 ≡ getD bs (255 * at + o) 0
   label-get o h =
       getD-take (lenOf ws at) (take 255 (drop (255 * at) bs)) o 0 h ∙ getD-take 255 (drop (255 * at) bs) o 0 (omega arith) ∙ getD-drop (255 * at) bs o 0
 

@@ -14,3 +14,4 @@ pub mod Slots
 pub mod Cuts
 pub mod Gaps
 pub mod Puts
+pub mod Altered

@@ -11,7 +11,7 @@ use Rattle.tree.specs.Tree.{keysW}
 use borrow.Rule.Slice.PartMut.{putMid, post-is}
 use Rattle.label.specs.Runs.{MovedUp}
 use Rattle.label.proofs.Moves.{by-lt}
-use Rattle.pool.specs.Layout.{startOf, lenOf, hasOf, numberOf, labelOf, numOf, numAt}
+use Rattle.pool.specs.Layout.{startOf, lenOf, hasOf, numberOf, spanOf, labelOf, numOf, numAt}
 use Rattle.pool.specs.Splice.{Bare, bareAt, Relinked, Settled, Room, Moved, numberWord, headPut, labelPut, bareOf, Filled}
 
 -- m places of a list from place a on
@@ -83,6 +83,13 @@ sets-mid l i (v ∷ vs) zero r h =
 sets-mid l i (v ∷ vs) (suc j) r h =
     let e : i + suc j ≡ suc i + j = omega arith in
     rw e (sets-mid (set l i v) (suc i) vs j (rw length-set (omega arith)) (omega arith))
+
+-- A head put leaves every span.
+pub head-span : (ws : List ℕ) (at start len : ℕ) (w : Num) (i : ℕ) → spanOf (headPut ws at start len w) i ≡ spanOf ws i
+unfolding headPut
+head-span ws at start len w i =
+    let new = start ∷ len ∷ keysW w ∷ numberWord w ∷ [] in
+    by-lt i at (λ h. sets-low ws (6 * at + 8) new (6 * i + 12) (omega arith)) (λ h. sets-high ws (6 * at + 8) new (6 * i + 12) (omega arith))
 
 -- The stores of the code, one after another
 pub head-eq : (ws : List ℕ) (i start len : ℕ) (w : Num) (has number : ℕ) → has ≡ keysW w → number ≡ numberWord w

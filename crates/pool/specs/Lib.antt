@@ -6,3 +6,4 @@ pub mod Post
 pub mod Fields
 pub mod Splice
 pub mod Put
+pub mod Altered

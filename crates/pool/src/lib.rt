@@ -291,5 +291,6 @@ pub fn counts(labels: &[u8], words: &[u32]) -> Counted
     Counted::Counts(keys_in(words, n), n)
 }
 
+pub mod alter;
 pub mod put;
 pub mod splice;

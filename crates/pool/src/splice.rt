@@ -75,7 +75,7 @@ pub fn move_slots(labels: &mut [u8], words: &mut [u32], from: Slot, to: Slot, k:
 }
 
 // Writes a slot's words but for its span.
-fn put_head(words: &mut [u32], at: Slot, start: usize, len: usize, stored: Stored)
+pub fn put_head(words: &mut [u32], at: Slot, start: usize, len: usize, stored: Stored)
     requires { ⌜ (6 * at .0 + 14 ≤ length (now words)) × (start < 4294967296) × (len < 4294967296) ⌝ }
     ensures { λ _. ⌜ now (words .exit) ≡ headPut (now (words .entry)) (at .0) start len (storedOf stored) ⌝ }
 {
