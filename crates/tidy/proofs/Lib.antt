@@ -1,0 +1,4 @@
+pub mod Sparse
+pub mod Rise
+pub mod Settle
+pub mod Stage
