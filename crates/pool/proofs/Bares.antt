@@ -175,7 +175,7 @@ whole-tree ws bs t slots h =
     })
 
 -- and back
-bare-of : (ws bs : List ℕ) (c : ℕ) (r : Rec) → recAt ws bs c ≡ r → bareAt ws bs c ≡ record { start = r .start; len = r .len; has = r .has; num = r .num; label = r .label }
+pub bare-of : (ws bs : List ℕ) (c : ℕ) (r : Rec) → recAt ws bs c ≡ r → bareAt ws bs c ≡ record { start = r .start; len = r .len; has = r .has; num = r .num; label = r .label }
 unfolding recAt bareAt
 bare-of ws bs c r e = λ i. record { start = e i .start; len = e i .len; has = e i .has; num = e i .num; label = e i .label }
 

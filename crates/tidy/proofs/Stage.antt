@@ -10,15 +10,17 @@ use Rattle.tree.specs.Map.{Num}
 use Rattle.tree.specs.Tree.{Forest, node, Tree, nodesF, nodesT, WellFormed}
 use Rattle.tree.specs.Remove.{settle}
 use Rattle.tree.specs.Context.{Context, plug, depth, before, parent}
+use Rattle.label.proofs.Moves.{by-eq}
 use Rattle.pool.specs.Layout.{nodesOf, startOf, spanOf}
 use Rattle.pool.specs.Records.{nodeRec}
 use Rattle.pool.specs.Pool.{poolTree}
 use Rattle.pool.specs.Rule.{Lengths}
 use Rattle.pool.specs.Splice.{Bare, bareAt, baresFrom, baresF, rootBare, baresT, solid, Linked, Settled, Closed}
+use Rattle.pool.specs.Altered.{Altered}
 use Rattle.pool.proofs.Runs.{run-cons, run-length, run-ext}
 use Rattle.pool.proofs.Stands.{Stands, Holds, nodes-are, stands-at}
 use Rattle.pool.proofs.Held.{slot-is-rec, tree-holds}
-use Rattle.pool.proofs.Bares.{baresF-length, whole-tree}
+use Rattle.pool.proofs.Bares.{start-is, baresF-length, whole-tree}
 use Rattle.search.proofs.Places.{plug-stands, plug-nodes, nodes-node}
 use Rattle.tidy.specs.Sparse.{Sparse, Ripe, Ready, Inside, NodeSettled, Parent}
 use Rattle.tidy.specs.Climb.{Kept, Site, Way, reached, rising, Stage, Climbing, Tidied}
@@ -28,6 +30,19 @@ use Rattle.tidy.proofs.Rise.{parent-below, parent-is, Changed, rise}
 -- What a node on the way settled
 abbrev pub Settles : (vs cs us ds : List ℕ) (c : ℕ) → Type 0
 Settles vs cs us ds c = (s b : ℕ) (l : Key) (w : Num) (kids : Forest) → Ripe vs cs c s b l w kids → NodeSettled vs cs us ds c s b l w kids
+
+-- One slot altered keeps them, if it keeps its start.
+pub kept-one : {ws bs vs cs : List ℕ} {at : ℕ} {x : Bare} → x .start ≡ startOf ws at → Altered ws bs vs cs at x → Kept ws bs vs cs
+kept-one {ws} {bs} {vs} {cs} {at} {x} s a =
+    let f = a .filled in
+    record {
+      lenW = f .lenW;
+      lenB = f .lenB;
+      nodes = f .head 0 (omega arith);
+      starts = λ i r.
+          by-eq i at (λ e. rw e (start-is vs cs at x (f .slot) ∙ s)) (λ ne. start-is vs cs i (bareAt ws bs i) (f .others i ne r) ∙ sym (start-is ws bs i (bareAt ws bs i) refl));
+      spans = a .spans;
+    }
 
 kept-then : {ws bs vs cs us ds : List ℕ} {c : ℕ} → Kept ws bs vs cs → Inside vs cs us ds c → Kept ws bs us ds
 kept-then k i =

@@ -1,0 +1,61 @@
+// Remove: the key is looked up, its number is taken away, and the way back up is tidied. An absent key tidies nothing.
+// Counterpart: `remove` of the Rust.
+ghost use mathlib.Core.Path.{_≡_};
+ghost use Prim.Native.Nat.{_≤_};
+ghost use lib.ListN.{length};
+ghost use Rattle.tree.specs.Key.{keyMax};
+ghost use Rattle.tree.specs.Told.{gotTold};
+ghost use Rattle.tree.specs.Calls.{removeCall};
+ghost use Rattle.pool.specs.Pool.{poolTree};
+ghost use Rattle.pool.specs.Post.{Meets};
+ghost use Rattle.pool.specs.Rule.{PoolRule};
+ghost use Rattle.remove.specs.Found.{Found};
+use pool::splice::Stored;
+use search::Stop;
+use tree::Got;
+use tree::Slot;
+
+// The key ends at the slot: its number is taken, if there is one.
+fn take_number(labels: &mut [u8], words: &mut [u32], at: Slot) -> Got
+    requires { ⌜ Found (now words) (now labels) (at .0) ⌝ }
+    ensures { λ r. ⌜ ((x : Found (now (words .entry)) (now (labels .entry)) (at .0)) → Meets (removeCall (poolTree (now (words .entry)) (now (labels .entry))) (x .key)) (gotTold r) (now (words .entry)) (now (labels .entry)) (now (words .exit)) (now (labels .exit))) ⌝ }
+{
+    match pool::splice::stored_at(words, at) {
+        Stored::Nothing => Got::NotFound,
+        Stored::Number(v) => {
+            pool::alter::drop_number(words, at);
+            tidy::tidy(labels, words, at);
+            Got::Number(v)
+        }
+    }
+}
+
+// `remove` in a pool that has been tested, of a key that is not too long.
+fn remove_in(labels: &mut [u8], words: &mut [u32], key: &[u8]) -> Got
+    requires { ⌜ PoolRule (now words) (now labels) × (length (now key) ≤ keyMax) ⌝ }
+    ensures { λ r. ⌜ Meets (removeCall (poolTree (now (words .entry)) (now (labels .entry))) (now (key .entry))) (gotTold r) (now (words .entry)) (now (labels .entry)) (now (words .exit)) (now (labels .exit)) ⌝ }
+{
+    let d = search::descend(labels, words, key);
+    let at = d.at;
+    let stop = d.stop;
+    match stop {
+        Stop::Root => take_number(labels, words, at),
+        Stop::Gap => Got::NotFound,
+        Stop::Same => take_number(labels, words, at),
+        Stop::Inside(_) => Got::NotFound,
+        Stop::Fork(_) => Got::NotFound,
+    }
+}
+
+// Takes the key out, and gives its number.
+pub fn remove(labels: &mut [u8], words: &mut [u32], key: &[u8]) -> Got
+    ensures { λ r. ⌜ Meets (removeCall (poolTree (now (words .entry)) (now (labels .entry))) (now (key .entry))) (gotTold r) (now (words .entry)) (now (labels .entry)) (now (words .exit)) (now (labels .exit)) ⌝ }
+{
+    if !pool::is_pool(labels, words) {
+        return Got::NotPool;
+    }
+    if key.len() > 4096 {
+        return Got::TooLong;
+    }
+    remove_in(labels, words, key)
+}
