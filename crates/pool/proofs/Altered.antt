@@ -136,7 +136,7 @@ joined ws bs vs cs at child k start own more w v s i j e f g by =
 -- Gaps opened one after another
 pub gaps-none : (ws bs : List ℕ) (from : ℕ) → Emptied ws bs ws from from
 gaps-none ws bs from =
-    record { len = refl; gaps = λ i a b. absurd (omega arith); others = λ i ne r. refl; spans = λ i. refl }
+    record { len = refl; head = λ j h. refl; gaps = λ i a b. absurd (omega arith); others = λ i ne r. refl; spans = λ i. refl }
 
 pub gaps-more : (ws bs vs us : List ℕ) (from i : ℕ) → from ≤ i → 255 * i + 255 ≤ length bs → Emptied ws bs vs from i → Altered vs bs us bs i (gapOf (bareAt vs bs i))
     → Emptied ws bs us from (i + 1)
@@ -144,6 +144,7 @@ gaps-more ws bs vs us from i h r e a =
     let f = a .filled in
     record {
       len = f .lenW ∙ e .len;
+      head = λ j h. f .head j h ∙ e .head j h;
       gaps = λ x p q.
           by-eq x i
           (λ y. rw y (f .slot ∙ ap gapOf (e .others i (λ b d. omega arith) r)))

@@ -3,7 +3,7 @@ use mathlib.Core.Path.{_≡_}
 use mathlib.Core.List.{List, [], _++_}
 use mathlib.Core.Option.{none}
 use Prim.Native.Nat.{ℕ, _+_, _*_, _≤_, _<_}
-use lib.ListN.{length}
+use lib.ListN.{length, getD}
 use Rattle.pool.specs.Layout.{lenOf, spanOf}
 use Rattle.pool.specs.Splice.{Bare, bareAt, bareOf, Filled}
 
@@ -33,6 +33,7 @@ pub record Joinable (ws bs : List ℕ) (at child : ℕ) : Type 0 where
 -- The slots from .. to are gaps, the others are what they were, and every span stays.
 pub record Emptied (ws bs vs : List ℕ) (from to : ℕ) : Type 0 where
   pub len : length vs ≡ length ws
+  pub head : (j : ℕ) → j < 8 → getD vs j 0 ≡ getD ws j 0
   pub gaps : (i : ℕ) → from ≤ i → i < to → bareAt vs bs i ≡ gapOf (bareAt ws bs i)
   pub others : (i : ℕ) → (from ≤ i → i < to → ⊥) → 255 * i + 255 ≤ length bs → bareAt vs bs i ≡ bareAt ws bs i
   pub spans : (i : ℕ) → spanOf vs i ≡ spanOf ws i

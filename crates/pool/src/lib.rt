@@ -232,7 +232,7 @@ pub fn is_pool(labels: &[u8], words: &[u32]) -> bool
 }
 
 // The empty tree: the root alone, without a number.
-fn write_empty(words: &mut [u32])
+pub fn write_empty(words: &mut [u32])
     requires { ⌜ 14 ≤ length (now words) ⌝ }
     ensures { λ _. ⌜ now (words .exit) ≡ emptied (now (words .entry)) ⌝ }
 {

@@ -56,7 +56,7 @@ scan-root e f z s =
     }
 
 -- Every slot of a forest starts at its path or deeper.
-stands-deep : (ws bs : List ℕ) (s : ℕ) (f : Forest) (c : ℕ) → Stands ws bs s f c → (i : ℕ) → c ≤ i → i < c + nodesF f → s ≤ startOf ws i
+pub stands-deep : (ws bs : List ℕ) (s : ℕ) (f : Forest) (c : ℕ) → Stands ws bs s f c → (i : ℕ) → c ≤ i → i < c + nodesF f → s ≤ startOf ws i
 stands-deep ws bs s nil c h i a b =
     let z : nodesF nil ≡ 0 = unfold nodesF in refl in
     absurd (omega arith)

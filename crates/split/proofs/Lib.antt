@@ -1,0 +1,4 @@
+pub mod Lifts
+pub mod Left
+pub mod Trees
+pub mod Halves

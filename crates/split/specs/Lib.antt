@@ -1,0 +1,3 @@
+pub mod Lift
+pub mod Post
+pub mod Halved
