@@ -157,8 +157,8 @@ fn damage(labels: &[u8], words: &[u32]) {
     }
 }
 
-fn put(labels: &mut [u8], words: &mut [u32], key: &[u8], v: u32) {
-    insert::insert(labels, words, key, RuleNo(v));
+fn put(labels: &mut [u8], words: &mut [u32], key: &[u8], v: RuleNo) {
+    insert::insert(labels, words, key, v);
 }
 
 // The image of the tree of up to four keys; one that is given twice is stored once.
@@ -166,10 +166,10 @@ fn tree_of(a: &[u8], b: &[u8], c: &[u8], d: &[u8]) {
     let mut labels = [0u8; 4080];
     let mut words = [0u32; 104];
     pool::make(&mut labels, &mut words);
-    put(&mut labels, &mut words, a, 1);
-    put(&mut labels, &mut words, b, 2);
-    put(&mut labels, &mut words, c, 3);
-    put(&mut labels, &mut words, d, 4);
+    put(&mut labels, &mut words, a, RuleNo(1));
+    put(&mut labels, &mut words, b, RuleNo(2));
+    put(&mut labels, &mut words, c, RuleNo(3));
+    put(&mut labels, &mut words, d, RuleNo(4));
     damage(&labels, &words);
 }
 

@@ -23,8 +23,8 @@ fn number(n: u32) {
 }
 
 // Inserts a key, and says its length, the answer and the old number.
-fn put(labels: &mut [u8], words: &mut [u32], key: &[u8], v: u32) {
-    let answer = insert::insert(labels, words, key, RuleNo(v));
+fn put(labels: &mut [u8], words: &mut [u32], key: &[u8], v: RuleNo) {
+    let answer = insert::insert(labels, words, key, v);
     text(b"insert");
     value(key.len() as u64);
     text(b": ");
@@ -60,15 +60,15 @@ fn make(labels: &mut [u8], words: &mut [u32]) {
 // One key in a fresh pool.
 fn one_key(labels: &mut [u8], words: &mut [u32], key: &[u8]) {
     make(labels, words);
-    put(labels, words, key, 1);
+    put(labels, words, key, RuleNo(1));
     show(labels, words);
 }
 
 // Two keys in a fresh pool.
 fn two_keys(labels: &mut [u8], words: &mut [u32], key: &[u8], other: &[u8]) {
     make(labels, words);
-    put(labels, words, key, 1);
-    put(labels, words, other, 2);
+    put(labels, words, key, RuleNo(1));
+    put(labels, words, other, RuleNo(2));
     show(labels, words);
 }
 
@@ -105,21 +105,21 @@ fn main() {
     let mut one_labels = [0u8; 255];
     let mut one_words = [0u32; 14];
     make(&mut one_labels, &mut one_words);
-    put(&mut one_labels, &mut one_words, &[], 7);
-    put(&mut one_labels, &mut one_words, b"a", 7);
+    put(&mut one_labels, &mut one_words, &[], RuleNo(7));
+    put(&mut one_labels, &mut one_words, b"a", RuleNo(7));
     let mut three_labels = [0u8; 765];
     let mut three_words = [0u32; 26];
     two_keys(&mut three_labels, &mut three_words, b"ab", b"a");
     two_keys(&mut three_labels, &mut three_words, b"ab", b"ac");
     two_keys(&mut labels, &mut words, b"ab", b"a");
-    put(&mut labels, &mut words, b"b", 3);
+    put(&mut labels, &mut words, b"b", RuleNo(3));
     let w = step(Walk::new(b"a"), &labels, &words);
-    put(&mut labels, &mut words, b"aa", 4);
+    put(&mut labels, &mut words, b"aa", RuleNo(4));
     let w = step(w, &labels, &words);
     let w = step(w, &labels, &words);
-    put(&mut labels, &mut words, b"abc", 5);
+    put(&mut labels, &mut words, b"abc", RuleNo(5));
     let w = step(w, &labels, &words);
     let w = step(w, &labels, &words);
-    put(&mut labels, &mut words, b"ad", 6);
+    put(&mut labels, &mut words, b"ad", RuleNo(6));
     step(w, &labels, &words);
 }

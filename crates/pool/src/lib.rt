@@ -121,45 +121,45 @@ pub fn slots_of(labels: &[u8], words: &[u32]) -> Sized
 }
 
 // Whether slot c can be the child that comes next.
-fn child_ok(labels: &[u8], words: &[u32], base: usize, end: usize, least: usize, c: usize) -> bool
-    requires { ⌜ Within (now words) (now labels) end × (c < end) ⌝ }
-    ensures { λ r. ⌜ Says r (Child (now (words .entry)) (now (labels .entry)) base end least c) ⌝ }
+fn child_ok(labels: &[u8], words: &[u32], base: usize, end: Slot, least: usize, c: Slot) -> bool
+    requires { ⌜ Within (now words) (now labels) (end .0) × (c .0 < end .0) ⌝ }
+    ensures { λ r. ⌜ Says r (Child (now (words .entry)) (now (labels .entry)) base (end .0) least (c .0)) ⌝ }
 {
-    if start_at(words, Slot(c)) != base {
+    if start_at(words, c) != base {
         return false;
     }
-    let n = len_at(words, Slot(c));
+    let n = len_at(words, c);
     if n < 1 {
         return false;
     }
     if n > 255 {
         return false;
     }
-    let s = span_at(words, Slot(c));
+    let s = span_at(words, c);
     if s < 1 {
         return false;
     }
-    if end - c < s {
+    if end.0 - c.0 < s {
         return false;
     }
-    if has_at(words, Slot(c)) + s < 2 {
+    if has_at(words, c) + s < 2 {
         return false;
     }
-    if (first_at(labels, Slot(c)) as usize) < least {
+    if (first_at(labels, c) as usize) < least {
         return false;
     }
     true
 }
 
-// Whether the slots from c on are children that end exactly at end.
-fn children_ok(labels: &[u8], words: &[u32], base: usize, end: usize, from: usize) -> bool
-    requires { ⌜ Within (now words) (now labels) end × (from ≤ end) ⌝ }
-    ensures { λ r. ⌜ Says r (Children (now (words .entry)) (now (labels .entry)) base end 0 from) ⌝ }
+// Whether the slots from .. end are children, the last of which ends exactly there.
+fn children_ok(labels: &[u8], words: &[u32], base: usize, end: Slot, from: Slot) -> bool
+    requires { ⌜ Within (now words) (now labels) (end .0) × (from .0 ≤ end .0) ⌝ }
+    ensures { λ r. ⌜ Says r (Children (now (words .entry)) (now (labels .entry)) base (end .0) 0 (from .0)) ⌝ }
 {
     let mut least: usize = 0;
-    let mut c = from;
-    while c < end {
-        if !child_ok(labels, words, base, end, least, c) {
+    let mut c = from.0;
+    while c < end.0 {
+        if !child_ok(labels, words, base, end, least, Slot(c)) {
             return false;
         }
         least = (first_at(labels, Slot(c)) as usize) + 1;
@@ -168,26 +168,27 @@ fn children_ok(labels: &[u8], words: &[u32], base: usize, end: usize, from: usiz
     true
 }
 
-// Whether slot i of n is right as a node.
-fn node_ok(labels: &[u8], words: &[u32], n: usize, i: usize) -> bool
-    requires { ⌜ Within (now words) (now labels) n × (i < n) ⌝ }
-    ensures { λ r. ⌜ Says r (NodeAt (now (words .entry)) (now (labels .entry)) n i) ⌝ }
+// Whether a slot of the first n is right as a node.
+fn node_ok(labels: &[u8], words: &[u32], n: usize, at: Slot) -> bool
+    requires { ⌜ Within (now words) (now labels) n × (at .0 < n) ⌝ }
+    ensures { λ r. ⌜ Says r (NodeAt (now (words .entry)) (now (labels .entry)) n (at .0)) ⌝ }
 {
-    if has_at(words, Slot(i)) > 1 {
+    let i = at.0;
+    if has_at(words, at) > 1 {
         return false;
     }
-    let base = start_at(words, Slot(i)) + len_at(words, Slot(i));
+    let base = start_at(words, at) + len_at(words, at);
     if base > 4096 {
         return false;
     }
-    let s = span_at(words, Slot(i));
+    let s = span_at(words, at);
     if s < 1 {
         return false;
     }
     if n - i < s {
         return false;
     }
-    children_ok(labels, words, base, i + s, i + 1)
+    children_ok(labels, words, base, Slot(i + s), Slot(i + 1))
 }
 
 // Whether the slots in use are a tree's, in a pool whose lengths are right.
@@ -213,7 +214,7 @@ fn tree_ok(labels: &[u8], words: &[u32], slots: usize) -> bool
     }
     let mut i = 0;
     while i < n {
-        if !node_ok(labels, words, n, i) {
+        if !node_ok(labels, words, n, Slot(i)) {
             return false;
         }
         i += 1;

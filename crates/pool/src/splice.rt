@@ -18,13 +18,14 @@ fn set_span(words: &mut [u32], at: Slot, span: usize)
     words[6 * i + 12] = span as u32;
 }
 
-// How many slots from i on, itself included, belong to it: those behind it that start at the end of its label or deeper.
-// The spans behind it are right, so it goes from child to child.
-fn extent(words: &[u32], n: usize, i: usize) -> usize
-    requires { ⌜ (6 * n + 8 ≤ length (now words)) × (n ≤ 16384) × (i < n) × Linked (now words) (i + 1) n ⌝ }
-    ensures { λ r. ⌜ (r ≡ 1 + reach (now (words .entry)) (startOf (now (words .entry)) i + lenOf (now (words .entry)) i) (i + 1) (n - (i + 1))) × (r ≤ 16384) ⌝ }
+// How many slots from this one on, itself included, belong to it: those behind it that start at the end of its label or
+// deeper. The spans behind it are right, so it goes from child to child.
+fn extent(words: &[u32], n: usize, at: Slot) -> usize
+    requires { ⌜ (6 * n + 8 ≤ length (now words)) × (n ≤ 16384) × (at .0 < n) × Linked (now words) (at .0 + 1) n ⌝ }
+    ensures { λ r. ⌜ (r ≡ 1 + reach (now (words .entry)) (startOf (now (words .entry)) (at .0) + lenOf (now (words .entry)) (at .0)) (at .0 + 1) (n - (at .0 + 1))) × (r ≤ 16384) ⌝ }
 {
-    let base = crate::start_at(words, Slot(i)) + crate::len_at(words, Slot(i));
+    let i = at.0;
+    let base = crate::start_at(words, at) + crate::len_at(words, at);
     let mut j = i + 1;
     while j < n {
         if crate::start_at(words, Slot(j)) < base {
@@ -43,7 +44,7 @@ pub fn relink(words: &mut [u32], n: usize)
     let mut i = n;
     while 0 < i {
         i -= 1;
-        let span = extent(words, n, i);
+        let span = extent(words, n, Slot(i));
         set_span(words, Slot(i), span);
     }
 }
@@ -164,19 +165,20 @@ fn lower_slot(labels: &mut [u8], words: &mut [u32], from: Slot, to: Slot)
     label::move_bytes_down(labels, 255 * i, 255 * i + 255, 255 * k);
 }
 
-// Keeps slot i, as slot j, or passes it: one without a label is a gap. Gives the next place.
-fn sweep_slot(labels: &mut [u8], words: &mut [u32], i: usize, j: usize) -> usize
-    requires { ⌜ (j ≤ i) × (6 * i + 14 ≤ length (now words)) × (255 * i + 255 ≤ length (now labels)) ⌝ }
-    ensures { λ r. ⌜ Swept (now (words .entry)) (now (labels .entry)) (now (words .exit)) (now (labels .exit)) i j r ⌝ }
+// Keeps slot `from`, as slot `to`, or passes it: one without a label is a gap. Gives the next place.
+fn sweep_slot(labels: &mut [u8], words: &mut [u32], from: Slot, to: Slot) -> Slot
+    requires { ⌜ (to .0 ≤ from .0) × (6 * from .0 + 14 ≤ length (now words)) × (255 * from .0 + 255 ≤ length (now labels)) ⌝ }
+    ensures { λ r. ⌜ Swept (now (words .entry)) (now (labels .entry)) (now (words .exit)) (now (labels .exit)) (from .0) (to .0) (r .0) ⌝ }
 {
-    if crate::len_at(words, Slot(i)) == 0 {
-        return j;
+    if crate::len_at(words, from) == 0 {
+        return to;
     }
-    if j == i {
-        return j + 1;
+    let next = Slot(to.0 + 1);
+    if to.0 == from.0 {
+        return next;
     }
-    lower_slot(labels, words, Slot(i), Slot(j));
-    j + 1
+    lower_slot(labels, words, from, to);
+    next
 }
 
 // Closes every gap in one sweep: a slot but the root without a label is one, and goes. Gives the slots then in use.
@@ -184,11 +186,11 @@ pub fn close_gaps(labels: &mut [u8], words: &mut [u32], n: usize) -> usize
     requires { ⌜ (1 ≤ n) × (6 * n + 8 ≤ length (now words)) × (255 * n ≤ length (now labels)) ⌝ }
     ensures { λ r. ⌜ Closed (now (words .entry)) (now (labels .entry)) (now (words .exit)) (now (labels .exit)) n r ⌝ }
 {
-    let mut j: usize = 1;
+    let mut to = Slot(1);
     let mut i: usize = 1;
     while i < n {
-        j = sweep_slot(labels, words, i, j);
+        to = sweep_slot(labels, words, Slot(i), to);
         i += 1;
     }
-    j
+    to.0
 }

@@ -101,15 +101,15 @@ fn best_at(words: &[u32], c: Slot, n: usize, best: Best) -> Best
     Best::At(n, pool::number_at(words, c))
 }
 
-// A descent by its parts, the places as numbers.
-fn landed(stop: Stop, at: usize, end: usize, parent: usize, above: usize, best: Best) -> Descent
-    ensures { λ r. ⌜ r ≡ descentOf stop at end parent above best ⌝ }
+// A descent by its parts.
+fn landed(stop: Stop, at: Slot, end: Slot, parent: Slot, above: usize, best: Best) -> Descent
+    ensures { λ r. ⌜ r ≡ descentOf stop (at .0) (end .0) (parent .0) above best ⌝ }
 {
     Descent {
         stop,
-        at: Slot(at),
-        end: Slot(end),
-        parent: Slot(parent),
+        at,
+        end,
+        parent,
         above,
         best,
     }
@@ -123,32 +123,34 @@ pub fn descend(labels: &[u8], words: &[u32], key: &[u8]) -> Descent
     let n = pool::nodes_in(words);
     let mut best = best_at(words, Slot(0), 0, Best::None);
     if key.len() == 0 {
-        return landed(Stop::Root, 0, n, 0, 0, best);
+        return landed(Stop::Root, Slot(0), Slot(n), Slot(0), 0, best);
     }
-    let mut parent: usize = 0;
+    let mut parent = Slot(0);
     let mut c: usize = 1;
     let mut end = n;
     let mut p: usize = 0;
     while c < end {
         match meet(labels, words, Slot(c), key, p) {
-            Meeting::Before => return landed(Stop::Gap, c, end, parent, p, best),
+            Meeting::Before => return landed(Stop::Gap, Slot(c), Slot(end), parent, p, best),
             Meeting::Past => c += pool::span_at(words, Slot(c)),
             Meeting::Same => {
                 best = best_at(words, Slot(c), key.len(), best);
-                return landed(Stop::Same, c, end, parent, p, best);
+                return landed(Stop::Same, Slot(c), Slot(end), parent, p, best);
             }
-            Meeting::Inside(m) => return landed(Stop::Inside(m), c, end, parent, p, best),
-            Meeting::Fork(m) => return landed(Stop::Fork(m), c, end, parent, p, best),
+            Meeting::Inside(m) => {
+                return landed(Stop::Inside(m), Slot(c), Slot(end), parent, p, best);
+            }
+            Meeting::Fork(m) => return landed(Stop::Fork(m), Slot(c), Slot(end), parent, p, best),
             Meeting::Through(m) => {
                 best = best_at(words, Slot(c), p + m, best);
-                parent = c;
+                parent = Slot(c);
                 end = c + pool::span_at(words, Slot(c));
                 p += m;
                 c += 1;
             }
         }
     }
-    landed(Stop::Gap, c, end, parent, p, best)
+    landed(Stop::Gap, Slot(c), Slot(end), parent, p, best)
 }
 
 // The number at a slot.

@@ -4,6 +4,7 @@ use tree::Counted;
 use tree::Got;
 use tree::Loaded;
 use tree::Prefixed;
+use tree::RuleNo;
 use tree::Sharing;
 use tree::Written;
 
@@ -109,14 +110,14 @@ fn show_bytes(bytes: &[u8]) {
     }
 }
 
-fn show_number(n: u32) {
-    value(n as u64);
+fn show_number(v: RuleNo) {
+    value(v.0 as u64);
 }
 
 fn show_numbers(numbers: &[u32]) {
     let mut i: usize = 0;
     while i < numbers.len() {
-        show_number(numbers[i]);
+        show_number(RuleNo(numbers[i]));
         i += 1;
     }
 }

@@ -19,11 +19,11 @@ use tree::Written;
 // A level is written in two bytes.
 const LEVEL_MAX: usize = 65535;
 
-// The greater of two numbers.
-fn greater(a: usize, b: usize) -> usize
-    ensures { λ r. ⌜ r ≡ max a b ⌝ }
+// The deeper of two levels.
+fn deeper(a: Level, b: Level) -> Level
+    ensures { λ r. ⌜ r .0 ≡ max (a .0) (b .0) ⌝ }
 {
-    if a < b {
+    if a.0 < b.0 {
         return b;
     }
     a
@@ -35,15 +35,15 @@ fn deepest(words: &[u32], from: Slot, end: Slot, level: Level) -> Level
     requires { ⌜ Reads (now words) (from .0) (end .0) (level .0) ⌝ }
     ensures { λ r. ⌜ Deepest (now (words .entry)) (from .0) (end .0) (level .0) (r .0) ⌝ }
 {
-    let mut deep: usize = 0;
+    let mut deep = Level(0);
     let mut c = from.0;
     while c < end.0 {
         let next = c + pool::span_at(words, Slot(c));
         let below = deepest(words, Slot(c + 1), Slot(next), Level(level.0 + 1));
-        deep = greater(deep, greater(level.0, below.0));
+        deep = deeper(deep, deeper(level, below));
         c = next;
     }
-    Level(deep)
+    deep
 }
 
 // How many bytes the image of n slots has: each record is four bytes and its label.

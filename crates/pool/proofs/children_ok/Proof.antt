@@ -9,10 +9,10 @@ use Rattle.pool.proofs.children_ok.Statement.{statement}
 use Rattle.pool.proofs.children_ok.Tie as tie
 
 abbrev Inv-loop : tie.InvT-loop
-Inv-loop labels words base end from least₀ c₀ least c = Along words labels base end from least c
+Inv-loop labels words base end least₀ c₀ least c = Along words labels base (end .0) c₀ least c
 
 abbrev μ-loop : tie.MeasureT-loop
-μ-loop labels words base end from least₀ c₀ least c = end - c
+μ-loop labels words base end least₀ c₀ least c = end .0 - c
 
 loop-holds : tie.Need-loop-holds Inv-loop μ-loop
 loop-holds c = record { within = omega arith; whole = λ k. k; rest = λ k. k }
@@ -21,7 +21,7 @@ child-ok-requires : tie.Need-child-ok-requires Inv-loop μ-loop
 child-ok-requires c κs = omega arith
 
 returns : tie.Need-returns Inv-loop μ-loop
-returns c = says-no (λ k. c .before .child-ok .ensures .no (not-true _ (c .if1 .taken)) (first-child (c .before .before .loop-test .taken) (c .before .before .before .loop .inv .rest k)))
+returns c = says-no (λ k. c .before .child-ok .ensures .no (not-true _ (c .if2 .taken)) (first-child (c .before .before .if1 .taken) (c .before .before .before .before .loop .inv .rest k)))
 
 first-at-requires : tie.Need-first-at-requires Inv-loop μ-loop
 first-at-requires c κs = omega arith
@@ -36,16 +36,16 @@ span-at-requires : tie.Need-span-at-requires Inv-loop μ-loop
 span-at-requires c κs = omega arith
 
 add-c : tie.Need-add-c Inv-loop μ-loop
-add-c c = omega (arith, c .before .before .before .child-ok .ensures .yes (not-false _ (c .before .before .if1 .left)))
+add-c c = omega (arith, c .before .before .before .child-ok .ensures .yes (not-false _ (c .before .before .if2 .left)))
 
 loop-less : tie.Need-loop-less Inv-loop μ-loop
-loop-less c = omega (arith, c .before .before .before .child-ok .ensures .yes (not-false _ (c .before .before .if1 .left)))
+loop-less c = omega (arith, c .before .before .before .child-ok .ensures .yes (not-false _ (c .before .before .if2 .left)))
 
 loop-again : tie.Need-loop-again Inv-loop μ-loop
 loop-again c =
-    let f = c .before .before .before .child-ok .ensures .yes (not-false _ (c .before .before .if1 .left)) in
-    let w = c .before .before .before .before .before .loop .inv in
-    let t = c .before .before .before .before .loop-test .taken in
+    let f = c .before .before .before .child-ok .ensures .yes (not-false _ (c .before .before .if2 .left)) in
+    let w = c .before .before .before .before .before .before .loop .inv in
+    let t = c .before .before .before .before .if1 .taken in
     record {
       within = omega (arith, f);
       whole = λ k. w .whole (child f (children-from (omega arith) (omega arith) k));
@@ -53,7 +53,7 @@ loop-again c =
     }
 
 returns-2 : tie.Need-returns-2 Inv-loop μ-loop
-returns-2 c = says-yes (c .before .loop .inv .whole (done (omega arith)))
+returns-2 c = says-yes (c .before .before .loop .inv .whole (done (omega arith)))
 
 pub children-ok-spec : {M : Type 1} → statement M
 children-ok-spec =

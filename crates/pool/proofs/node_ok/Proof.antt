@@ -37,11 +37,11 @@ sub-if4 c = search needs
 returns-4 : tie.Need-returns-4
 returns-4 c = says-no (λ f. omega arith)
 
-add-children-ok : tie.Need-add-children-ok
-add-children-ok c = search needs
+add-t8 : tie.Need-add-t8
+add-t8 c = search needs
 
-add-children-ok-2 : tie.Need-add-children-ok-2
-add-children-ok-2 c = search needs
+add-t10 : tie.Need-add-t10
+add-t10 c = search needs
 
 children-ok-requires : tie.Need-children-ok-requires
 children-ok-requires c κs = search needs
@@ -68,7 +68,7 @@ node-ok-spec =
     returns-3
     sub-if4
     returns-4
-    add-children-ok
-    add-children-ok-2
+    add-t8
+    add-t10
     children-ok-requires
     returns-5)

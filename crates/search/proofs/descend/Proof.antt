@@ -13,7 +13,7 @@ use Rattle.search.proofs.descend.Statement.{statement}
 use Rattle.search.proofs.descend.Tie as tie
 
 abbrev Inv-loop : tie.InvT-loop
-Inv-loop labels words key n best₀ parent₀ c₀ end₀ p₀ best parent c end p = Seek words labels key (bestOf best) parent c end p
+Inv-loop labels words key n best₀ parent₀ c₀ end₀ p₀ best parent c end p = Seek words labels key (bestOf best) (parent .0) c end p
 
 abbrev μ-loop : tie.MeasureT-loop
 μ-loop labels words key n best₀ parent₀ c₀ end₀ p₀ best parent c end p = end - c
@@ -22,7 +22,7 @@ abbrev μ-loop : tie.MeasureT-loop
 here : (c : tie.In-loop Inv-loop μ-loop)
     → let a = c .before .before .before .before .before .before .before .before .args in
     let v = c .before .loop in
-    AtNode (a .words .now) (a .labels .now) (a .key .now) (bestOf (v .best)) (v .parent) (v .c) (v .end) (v .p)
+    AtNode (a .words .now) (a .labels .now) (a .key .now) (bestOf (v .best)) (v .parent .0) (v .c) (v .end) (v .p)
 here c = seek-node (c .before .before .before .before .before .before .before .before .pre .0) (c .loop-test .taken) (c .before .loop .inv)
 
 -- what its meeting with the key says

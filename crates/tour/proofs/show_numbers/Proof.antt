@@ -14,11 +14,11 @@ abbrev μ-loop : tie.MeasureT-loop
 loop-holds : tie.Need-loop-holds Inv-loop μ-loop
 loop-holds c = omega arith
 
-mul-show-number : tie.Need-mul-show-number Inv-loop μ-loop
-mul-show-number c = omega arith
+mul-t3 : tie.Need-mul-t3 Inv-loop μ-loop
+mul-t3 c = omega arith
 
-shared-slice-read-show-number : tie.Need-shared-slice-read-show-number Inv-loop μ-loop
-shared-slice-read-show-number c = omega arith
+shared-slice-read-t7 : tie.Need-shared-slice-read-t7 Inv-loop μ-loop
+shared-slice-read-t7 c = omega arith
 
 show-number-requires : tie.Need-show-number-requires Inv-loop μ-loop
 show-number-requires c κs = omega arith
@@ -42,8 +42,8 @@ show-numbers-spec =
     Inv-loop
     μ-loop
     loop-holds
-    mul-show-number
-    shared-slice-read-show-number
+    mul-t3
+    shared-slice-read-t7
     show-number-requires
     add-i
     loop-less

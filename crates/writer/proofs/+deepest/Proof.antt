@@ -13,7 +13,7 @@ use Rattle.writer.proofs.deepest.Reads as reads
 use Rattle.writer.proofs.deepest.Kinds as kinds
 use Rattle.writer.proofs.+deepest.Lts-deepest as lts
 use Rattle.pool.proofs.span_at.Reads as span-at-reads
-use Rattle.writer.proofs.greater.Reads as greater-reads
+use Rattle.writer.proofs.deeper.Reads as deeper-reads
 use Rattle.writer.proofs.+deepest.{statement}
 use Rattle.writer.proofs.+deepest.Tie.{close}
 
@@ -28,18 +28,18 @@ below t = and 1 kinds.ps (falls 1 kinds.ps _<_ μ-deepest t) reads.Pre
 
 -- what it is told of the functions that it calls
 abbrev told : ℕ → lts.Claims
-told t = (span-at-reads.Asked, span-at-reads.Learnt, below t, reads.Post, greater-reads.Asked, greater-reads.Learnt)
+told t = (span-at-reads.Asked, span-at-reads.Learnt, below t, reads.Post, deeper-reads.Asked, deeper-reads.Learnt)
 
 abbrev Inv-loop : lts.InvT-loop
 Inv-loop words end level deep₀ c₀ deep c =
-    (c₀ ≤ c) × ((bs : List ℕ) (f : Forest) → Run words bs c₀ (end .0) (level .0) f → Down words bs c (end .0) (level .0) deep f)
+    (c₀ ≤ c) × ((bs : List ℕ) (f : Forest) → Run words bs c₀ (end .0) (level .0) f → Down words bs c (end .0) (level .0) (deep .0) f)
 
 abbrev μ-loop : lts.MeasureT-loop
 μ-loop words end level deep₀ c₀ deep c = end .0 - c
 
 -- what is left of the siblings, and the node that stands at c
 down-at : (t : ℕ) (c : lts.Then1 (told t) (entered t) reads.Post Inv-loop μ-loop)
-    → Down (c .before .before .before .before .args .words .now) (c .before .before .before .before .pre .1 .labels) (c .before .before .loop .c) (c .before .before .before .before .args .end .0) (c .before .before .before .before .args .level .0) (c .before .before .loop .deep) (c .before .before .before .before .pre .1 .forest)
+    → Down (c .before .before .before .before .args .words .now) (c .before .before .before .before .pre .1 .labels) (c .before .before .loop .c) (c .before .before .before .before .args .end .0) (c .before .before .before .before .args .level .0) (c .before .before .loop .deep .0) (c .before .before .before .before .pre .1 .forest)
 down-at t c = c .before .before .loop .inv .1 (c .before .before .before .before .pre .1 .labels) (c .before .before .before .before .pre .1 .forest) (c .before .before .before .before .pre .1 .run)
 
 node-at : (t : ℕ) (c : lts.Then1 (told t) (entered t) reads.Post Inv-loop μ-loop)
@@ -55,8 +55,8 @@ span-at-requires t c κs = omega arith
 add-next : (t : ℕ) → lts.Need-add-next (told t) (entered t) reads.Post Inv-loop μ-loop
 add-next t c = omega (arith, node-at t (c .before) .inside)
 
-add-greater : (t : ℕ) → lts.Need-add-greater (told t) (entered t) reads.Post Inv-loop μ-loop
-add-greater t c = omega arith
+add-t10 : (t : ℕ) → lts.Need-add-t10 (told t) (entered t) reads.Post Inv-loop μ-loop
+add-t10 t c = omega arith
 
 add-t13 : (t : ℕ) → lts.Need-add-t13 (told t) (entered t) reads.Post Inv-loop μ-loop
 add-t13 t c = omega (arith, node-at t (c .before .before) .shallow)
@@ -64,11 +64,11 @@ add-t13 t c = omega (arith, node-at t (c .before .before) .shallow)
 deepest-requires : (t : ℕ) → lts.Need-deepest-requires (told t) (entered t) reads.Post Inv-loop μ-loop
 deepest-requires t c κs = (omega (arith, node-at t (c .before .before) .inside), down-reads (down-at t (c .before .before)) (c .before .before .if1 .taken) (c .before .before .before .before .before .before .pre .1 .words) (omega arith))
 
-greater-requires : (t : ℕ) → lts.Need-greater-requires (told t) (entered t) reads.Post Inv-loop μ-loop
-greater-requires t c κs = tt
+deeper-requires : (t : ℕ) → lts.Need-deeper-requires (told t) (entered t) reads.Post Inv-loop μ-loop
+deeper-requires t c κs = tt
 
-greater-requires-2 : (t : ℕ) → lts.Need-greater-requires-2 (told t) (entered t) reads.Post Inv-loop μ-loop
-greater-requires-2 t c κs = tt
+deeper-requires-2 : (t : ℕ) → lts.Need-deeper-requires-2 (told t) (entered t) reads.Post Inv-loop μ-loop
+deeper-requires-2 t c κs = tt
 
 loop-less : (t : ℕ) → lts.Need-loop-less (told t) (entered t) reads.Post Inv-loop μ-loop
 loop-less t c = omega (arith, node-at t (c .before .before .before .before .before) .some)
@@ -87,11 +87,11 @@ pub +deepest-spec : {M : Type 1} → statement M
     (loop-holds t)
     (span-at-requires t)
     (add-next t)
-    (add-greater t)
+    (add-t10 t)
     (add-t13 t)
     (deepest-requires t)
-    (greater-requires t)
-    (greater-requires-2 t)
+    (deeper-requires t)
+    (deeper-requires-2 t)
     (loop-less t)
     (loop-again t)
     (returns t)

@@ -6,10 +6,10 @@ use Rattle.pool.proofs.splice.close_gaps.Statement.{statement}
 use Rattle.pool.proofs.splice.close_gaps.Tie as tie
 
 abbrev Inv-loop : tie.InvT-loop
-Inv-loop labels₀ words₀ n j₀ i₀ labels words j i = (i ≤ n) × Sweeping words₀ labels₀ words labels i j
+Inv-loop labels₀ words₀ n to₀ i₀ labels words to i = (i ≤ n) × Sweeping words₀ labels₀ words labels i (to .0)
 
 abbrev μ-loop : tie.MeasureT-loop
-μ-loop labels₀ words₀ n j₀ i₀ labels words j i = n - i
+μ-loop labels₀ words₀ n to₀ i₀ labels words to i = n - i
 
 loop-holds : tie.Need-loop-holds Inv-loop μ-loop
 loop-holds c = (omega arith, sweep-none _ _)

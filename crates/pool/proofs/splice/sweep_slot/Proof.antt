@@ -16,20 +16,17 @@ same-length c = search needs
 returns : tie.Need-returns
 returns c = gone (omega arith) refl refl refl
 
-add-result : tie.Need-add-result
-add-result c = search needs
+add-t6 : tie.Need-add-t6
+add-t6 c = search needs
 
 same-length-2 : tie.Need-same-length-2
 same-length-2 c = search needs
 
 returns-2 : tie.Need-returns-2
-returns-2 c = kept (λ e. c .before .if1 .left (omega arith)) refl (stays _ _ _ _ (omega arith))
+returns-2 c = kept (λ e. c .before .before .before .before .if1 .left (omega arith)) refl (stays _ _ _ _ (omega arith))
 
 lower-slot-requires : tie.Need-lower-slot-requires
 lower-slot-requires c κs = search needs
-
-add-result-2 : tie.Need-add-result-2
-add-result-2 c = search needs
 
 same-length-3 : tie.Need-same-length-3
 same-length-3 c = search needs
@@ -38,7 +35,7 @@ same-length-4 : tie.Need-same-length-4
 same-length-4 c = search needs
 
 returns-3 : tie.Need-returns-3
-returns-3 c = kept (λ e. c .before .before .before .before .before .before .before .before .if1 .left (omega arith)) refl (c .before .before .before .before .lower-slot .ensures)
+returns-3 c = kept (λ e. c .before .before .before .before .before .before .before .before .before .before .before .if1 .left (omega arith)) refl (c .before .before .before .before .lower-slot .ensures)
 
 pub sweep-slot-spec : {M : Type 1} → statement M
 sweep-slot-spec =
@@ -47,11 +44,10 @@ sweep-slot-spec =
     len-at-requires
     same-length
     returns
-    add-result
+    add-t6
     same-length-2
     returns-2
     lower-slot-requires
-    add-result-2
     same-length-3
     same-length-4
     returns-3)
