@@ -23,6 +23,11 @@ lastIf false l = none
 unfoldable pub due : (prefix : Key) (last : Option Key) → Key → Bool
 due p l k = elim (strip p k) [ none ↦ false | some r ↦ past l k ]
 
+-- The answer for a slot with this mark: it gives a key exactly if it has a number.
+abbrev pub GivesKey : Bool → (has : ℕ) → Type 0
+GivesKey true has = 1 ≤ has
+GivesKey false has = has ≡ 0
+
 -- The path with the label of slot i laid behind the bytes above it
 unfoldable pub laid : (ws bs path : List ℕ) → ℕ → List ℕ
 laid ws bs path i = sets path (startOf ws i) (labelOf ws bs i)

@@ -3,12 +3,14 @@
 // `iter_descendant` and `Iter::next`, whose stack of nodes gives way to the last key.
 ghost use mathlib.Core.Path.{_≡_};
 ghost use mathlib.Core.Option.{some};
+ghost use Prim.Native.Nat.{_+_, _*_, _≤_};
 ghost use lib.ListN.{length};
 ghost use Rattle.tree.specs.Key.{keyMax, pick};
 ghost use Rattle.tree.specs.Map.{past};
+ghost use Rattle.pool.specs.Layout.{hasOf};
 ghost use Rattle.pool.specs.Pool.{poolTree};
 ghost use Rattle.pool.specs.Rule.{PoolRule};
-ghost use Rattle.walk.specs.Due.{lastIf, due, LayRoom, Laid, Sought};
+ghost use Rattle.walk.specs.Due.{lastIf, due, GivesKey, LayRoom, Laid, Sought};
 ghost use Rattle.walk.specs.Walks.{handedOn, Begins, Steps};
 use tree::RuleNo;
 use tree::Slot;
@@ -73,6 +75,17 @@ fn lay(labels: &[u8], words: &[u32], at: Slot, path: &mut [u8]) -> usize
     to
 }
 
+// Whether a slot gives a key: one with a number does, also where longer keys stand below it.
+fn gives_key(words: &[u32], at: Slot) -> bool
+    requires { ⌜ 6 * at .0 + 14 ≤ length (now words) ⌝ }
+    ensures { λ r. ⌜ GivesKey r (hasOf (now (words .entry)) (at .0)) ⌝ }
+{
+    if pool::has_at(words, at) == 0 {
+        return false;
+    }
+    true
+}
+
 // Looks for the next key, slot by slot: the first that is due. Counterpart: `Iter::next`, called until a node with a value
 // comes; the Rust finds its way back by a stack, and this loop by the path that it keeps.
 fn seek(
@@ -90,7 +103,7 @@ fn seek(
     let mut i: usize = 0;
     while i < n {
         let len = lay(labels, words, Slot(i), path);
-        if 0 < pool::has_at(words, Slot(i)) {
+        if gives_key(words, Slot(i)) {
             if is_due(&path[..len], prefix, last, begun) {
                 return Found::Key(len, pool::number_at(words, Slot(i)));
             }

@@ -25,8 +25,8 @@ loop-holds c = ahead-start _ _ _ (c .before .before .before .before .before .bef
 lay-requires : tie.Need-lay-requires Inv-loop μ-loop
 lay-requires c κs = slot-room (c .before .before .loop .inv) (c .before .loop-test .taken)
 
-has-at-requires : tie.Need-has-at-requires Inv-loop μ-loop
-has-at-requires c κs = slot-room (c .before .before .before .before .before .loop .inv) (c .before .before .before .before .loop-test .taken) .words
+gives-key-requires : tie.Need-gives-key-requires Inv-loop μ-loop
+gives-key-requires c κs = slot-room (c .before .before .before .before .before .loop .inv) (c .before .before .before .before .loop-test .taken) .words
 
 slice-reshare-prefix-is-due : tie.Need-slice-reshare-prefix-is-due Inv-loop μ-loop
 slice-reshare-prefix-is-due c = laid-inside (c .before .before .before .before .before .before .before .loop .inv) (c .before .before .before .before .before .before .loop-test .taken) (c .before .before .before .before .lay .ensures)
@@ -44,7 +44,7 @@ same-length : tie.Need-same-length Inv-loop μ-loop
 same-length c = laid-length (c .before .before .before .before .before .before .before .before .before .before .before .loop .inv) (c .before .before .before .before .before .before .before .before .before .before .loop-test .taken) (c .before .before .before .before .before .before .before .before .lay .ensures) ∙ sym (c .before .before .before .before .before .before .before .before .before .before .before .before .before .before .before .before .before .before .pre .1)
 
 returns : tie.Need-returns Inv-loop μ-loop
-returns c = sought-key (c .before .before .before .before .before .before .before .before .before .before .before .loop .inv) (c .before .before .before .before .before .before .before .before .before .before .loop-test .taken) (c .before .before .before .before .before .before .before .before .lay .ensures) (omega (arith, c .before .before .before .before .before .has-at .ensures .0, c .before .before .before .before .if1 .taken)) (sym (c .before .if2 .taken) ∙ c .before .before .is-due .ensures) _ (c .number-at .ensures)
+returns c = sought-key (c .before .before .before .before .before .before .before .before .before .before .before .loop .inv) (c .before .before .before .before .before .before .before .before .before .before .loop-test .taken) (c .before .before .before .before .before .before .before .before .lay .ensures) (rw (c .before .before .before .before .if1 .taken) at (c .before .before .before .before .before .gives-key .ensures)) (sym (c .before .if2 .taken) ∙ c .before .before .is-due .ensures) _ (c .number-at .ensures)
 
 add-i : tie.Need-add-i Inv-loop μ-loop
 add-i c = omega arith
@@ -53,7 +53,7 @@ loop-less : tie.Need-loop-less Inv-loop μ-loop
 loop-less c = omega arith
 
 loop-again : tie.Need-loop-again Inv-loop μ-loop
-loop-again c = ⊎-elim (λ w. ahead-passed (c .before .before .before .before .before .before .before .loop .inv) (c .before .before .before .before .before .before .loop-test .taken) (c .before .before .before .before .lay .ensures) (omega (arith, c .before .has-at .ensures .0, w .0 .taken)) (sym (w .3 .left) ∙ w .2 .ensures)) (λ w. ahead-plain (c .before .before .before .before .before .before .before .loop .inv) (c .before .before .before .before .before .before .loop-test .taken) (c .before .before .before .before .lay .ensures) (omega (arith, c .before .has-at .ensures .0, w .left))) (c .if1 .came)
+loop-again c = ⊎-elim (λ w. ahead-passed (c .before .before .before .before .before .before .before .loop .inv) (c .before .before .before .before .before .before .loop-test .taken) (c .before .before .before .before .lay .ensures) (rw (w .0 .taken) at (c .before .gives-key .ensures)) (sym (w .3 .left) ∙ w .2 .ensures)) (λ w. ahead-plain (c .before .before .before .before .before .before .before .loop .inv) (c .before .before .before .before .before .before .loop-test .taken) (c .before .before .before .before .lay .ensures) (rw (w .left) at (c .before .gives-key .ensures))) (c .if1 .came)
 
 same-length-2 : tie.Need-same-length-2 Inv-loop μ-loop
 same-length-2 c = c .before .loop .inv .len ∙ sym (c .before .before .before .before .before .before .before .before .pre .1)
@@ -70,7 +70,7 @@ seek-spec =
     nodes-in-requires
     loop-holds
     lay-requires
-    has-at-requires
+    gives-key-requires
     slice-reshare-prefix-is-due
     slice-aggregate-is-due
     is-due-requires
