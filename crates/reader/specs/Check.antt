@@ -6,7 +6,7 @@ use Prim.Native.Nat.{ℕ, suc, _+_, _*_, _≤_}
 use lib.ListN.{length, getD}
 use Rattle.tree.specs.Key.{keyMax}
 use Rattle.tree.specs.Tree.{Forest, Tree, nodesF, nodesT}
-use Rattle.tree.specs.Told.{Told, refusal, refusalAt, loadedTold}
+use Rattle.tree.specs.Told.{Told, done, refusal, refusalAt, loadedTold}
 use Rattle.tree.specs.Reader.{Rule, atMost, equal, Tested, broken, sound, hasNumber, hasChild, below, flagRules}
 use Rattle.tree.specs.Reader.{Read, refused, gave, readNode, readKids, Verdict, refusedWith, ok, readT}
 use Rattle.reader.specs.declared.Found.{Found}
@@ -91,6 +91,11 @@ pub data Count : Type 0 where
 abbrev pub countOf : Checked → Count
 countOf (Checked.Refused x) = refuses (loadedTold x)
 countOf (Checked.Accepted k) = holds k
+
+-- What the verdict is answered with: an image that was accepted has been read.
+abbrev pub answerOf : Checked → Told
+answerOf (Checked.Refused x) = loadedTold x
+answerOf (Checked.Accepted k) = done []
 
 unfoldable pub verdictCount : Verdict → Count
 verdictCount (refusedWith x) = refuses x

@@ -8,7 +8,7 @@ ghost use Rattle.tree.specs.Told.{loadedTold};
 ghost use Rattle.tree.specs.Calls.{readCall};
 ghost use Rattle.pool.specs.Pool.{slotsOf};
 ghost use Rattle.pool.specs.Post.{Meets};
-ghost use Rattle.reader.specs.Check.{foundOf, headRules, bodyRules, countRules, NodeChecked, KidsChecked, Place, CheckedAs};
+ghost use Rattle.reader.specs.Check.{foundOf, headRules, bodyRules, countRules, NodeChecked, KidsChecked, Place, CheckedAs, answerOf};
 
 mod fill;
 
@@ -232,6 +232,16 @@ pub fn check(tree: &[u8], numbers: usize, slots: usize) -> Checked
     }
 }
 
+// What a verdict is answered with: an image that was accepted has been read.
+fn answer(verdict: Checked) -> Loaded
+    ensures { λ r. ⌜ loadedTold r ≡ answerOf verdict ⌝ }
+{
+    match verdict {
+        Checked::Refused(x) => x,
+        Checked::Accepted(_) => Loaded::Done,
+    }
+}
+
 // Reads an image into a pool, of which only the lengths are tested: old contents don't matter. With any number but 0 no lent
 // byte or word has changed. Counterpart: `KeyAndNode::deserialize`.
 pub fn read(labels: &mut [u8], words: &mut [u32], tree: &[u8], numbers: &[u32]) -> Loaded
@@ -240,12 +250,9 @@ pub fn read(labels: &mut [u8], words: &mut [u32], tree: &[u8], numbers: &[u32]) 
     let Sized::Slots(slots) = slots_of(labels, words) else {
         return Loaded::NotPool;
     };
-    let v = check(tree, numbers.len(), slots);
-    match v {
-        Checked::Refused(x) => x,
-        Checked::Accepted(_) => {
-            fill::fill_tree(labels, words, tree, numbers);
-            Loaded::Done
-        }
+    let verdict = check(tree, numbers.len(), slots);
+    if let Checked::Accepted(_) = verdict {
+        fill::fill_tree(labels, words, tree, numbers);
     }
+    answer(verdict)
 }
