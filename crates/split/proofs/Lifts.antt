@@ -16,7 +16,7 @@ use Rattle.pool.specs.declared.put.Head.{Head}
 use Rattle.pool.proofs.Cuts.{label-length}
 use Rattle.pool.proofs.Held.{num-has}
 use Rattle.pool.proofs.Puts.{rec-same, nodes-put}
-use Rattle.split.specs.Lift.{lowered, topped, Liftable, Lifted, Rooted, Detached, DetachedBelow}
+use Rattle.split.specs.Lift.{carried, lowered, topped, Liftable, Lifted, Rooted, Detached, DetachedBelow}
 use Rattle.split.specs.Halved.{Detachable}
 
 -- The length of a slot's label
@@ -24,13 +24,17 @@ pub label-long : (ws bs l : List ℕ) (at : ℕ) → Within ws bs (at + 1) → l
 label-long ws bs l at w h e = ap length e ∙ label-length ws bs at h (omega (arith, w .labels))
 
 -- The record that the code writes
-pub lowered-put : (ws bs l vs cs us ds : List ℕ) (from to base : ℕ) (h : Head) → Within ws bs (from + 1) → lenOf ws from ≤ 255 → l ≡ labelOf ws bs from → h .start ≡ startOf ws from - base
-    → h .len ≡ length l → h .has ≡ hasOf ws from → h .number .0 ≡ numberOf ws from → h .span ≡ spanOf ws from → SlotPut vs cs us ds to (recOf h l)
-    → SlotPut vs cs us ds to (lowered base (recAt ws bs from))
+pub carried-put : (ws vs cs us ds l : List ℕ) (from to start : ℕ) (h : Head) → h .start ≡ start → h .len ≡ length l → h .has ≡ hasOf ws from → h .number .0 ≡ numberOf ws from
+    → h .span ≡ spanOf ws from → SlotPut vs cs us ds to (recOf h l) → SlotPut vs cs us ds to (carried ws from start l)
+carried-put ws vs cs us ds l from to start h s n a v p q = rw (s, n, a, v, p) at q
+
+-- with the slot's own label
+pub lowered-put : (ws bs l vs cs us ds : List ℕ) (from to base start : ℕ) → Within ws bs (from + 1) → lenOf ws from ≤ 255 → l ≡ labelOf ws bs from → start ≡ startOf ws from - base
+    → SlotPut vs cs us ds to (carried ws from start l) → SlotPut vs cs us ds to (lowered base (recAt ws bs from))
 unfolding recAt
-lowered-put ws bs l vs cs us ds from to base h w i e s n a v p q =
-    let n′ : h .len ≡ lenOf ws from = n ∙ label-long ws bs l from w i e in
-    rw (s, n′, a, v, p, e) at q
+lowered-put ws bs l vs cs us ds from to base start w i e s q =
+    let n : length l ≡ lenOf ws from = label-long ws bs l from w i e in
+    rw (n, s, e) at q
 
 -- One more slot carried over
 pub lift-none : (ws bs vs cs : List ℕ) (from to base : ℕ) → Lifted ws bs vs cs vs cs from to 0 base
@@ -95,18 +99,18 @@ detached ws bs vs cs us ds es at base has number nodes first count d f k b a v n
         let s : nodes ≡ suc (spanOf ws at - 1) = omega (arith, d .span) in
         λ i. record { start = 0; len = 0; has = h i; num = w i; span = s i; label = [] }
 
-pub topped-put : (ws bs l vs cs us ds : List ℕ) (at m to : ℕ) (h : Head) → Within ws bs (at + 1) → lenOf ws at ≤ 255 → m ≤ lenOf ws at → l ≡ labelOf ws bs at → h .start ≡ 0
-    → h .len ≡ length (take (length l - m) (drop m l)) → h .has ≡ hasOf ws at → h .number .0 ≡ numberOf ws at → h .span ≡ spanOf ws at
-    → SlotPut vs cs us ds to (recOf h (take (length l - m) (drop m l))) → SlotPut vs cs us ds to (topped m (recAt ws bs at))
-unfolding recAt
-topped-put ws bs l vs cs us ds at m to h w i c e s n a v p q =
-    let t : take (length l - m) (drop m l) ≡ drop m (labelOf ws bs at) = take-all (length l - m) (drop m l) (omega (arith, length-drop m l)) ∙ ap (drop m) e in
-    let n′ : h .len ≡ lenOf ws at - m = n ∙ ap length t ∙ length-drop m (labelOf ws bs at) ∙ omega (arith, label-long ws bs l at w i e, ap length e) in
-    rw (s, n′, a, v, p, t) at q
-
 -- the rest of a label, as the code takes it
 pub rest-long : (ws bs l : List ℕ) (at m : ℕ) → Within ws bs (at + 1) → lenOf ws at ≤ 255 → l ≡ labelOf ws bs at → length (take (length l - m) (drop m l)) ≡ lenOf ws at - m
 rest-long ws bs l at m w i e = omega (arith, length-take (length l - m) (drop m l), length-drop m l, label-long ws bs l at w i e)
+
+-- with what is left of it
+pub topped-put : (ws bs l vs cs us ds : List ℕ) (at m to : ℕ) → Within ws bs (at + 1) → lenOf ws at ≤ 255 → l ≡ labelOf ws bs at
+    → SlotPut vs cs us ds to (carried ws at 0 (take (length l - m) (drop m l))) → SlotPut vs cs us ds to (topped m (recAt ws bs at))
+unfolding recAt
+topped-put ws bs l vs cs us ds at m to w i e q =
+    let n : length (take (length l - m) (drop m l)) ≡ lenOf ws at - m = rest-long ws bs l at m w i e in
+    let t : take (length l - m) (drop m l) ≡ drop m (labelOf ws bs at) = take-all (length l - m) (drop m l) (omega (arith, length-drop m l)) ∙ ap (drop m) e in
+    rw (n, t) at q
 
 pub detached-below : (ws bs vs cs us ds es fs gs : List ℕ) (at m base nodes first count : ℕ) → Detachable ws bs at → first ≡ at + 1 → count ≡ spanOf ws at - 1 → base ≡ startOf ws at + m
     → nodes ≡ spanOf ws at + 1 → Lifted ws bs vs cs us ds first 2 count base → SlotPut us ds es fs 1 (topped m (recAt ws bs at)) → Rooted es gs 0 0 nodes

@@ -10,10 +10,14 @@ use Rattle.tree.specs.Map.{Num}
 use Rattle.tree.specs.Tree.{Tree}
 use Rattle.tree.specs.Told.{Told}
 use Rattle.tree.specs.Calls.{SplitOutcome, refusesBoth, leavesBoth}
-use Rattle.pool.specs.Layout.{nodesOf, startOf, lenOf, spanOf, numOf, numAt}
+use Rattle.pool.specs.Layout.{nodesOf, startOf, lenOf, hasOf, spanOf, numOf, numAt}
 use Rattle.pool.specs.Records.{Rec, recAt, rootRec}
 use Rattle.pool.specs.Pool.{poolTree, slotsOf}
 use Rattle.pool.specs.Rule.{Within}
+
+-- A record with the number and the span of slot `from`, under a path of `start` bytes, with a label of its own
+abbrev pub carried : (ws : List ℕ) (from start : ℕ) (l : List ℕ) → Rec
+carried ws from start l = record { start = start; len = length l; has = hasOf ws from; num = numAt ws from; span = spanOf ws from; label = l }
 
 -- A record under a path that is `base` bytes shorter
 abbrev pub lowered : (base : ℕ) → Rec → Rec

@@ -12,7 +12,7 @@ ghost use Rattle.pool.specs.Put.{SlotPut};
 ghost use Rattle.pool.specs.Pool.{poolTree, slotsOf};
 ghost use Rattle.pool.specs.Rule.{Within, Lengths, PoolRule};
 ghost use Rattle.search.specs.declared.Stop.{Stop};
-ghost use Rattle.split.specs.Lift.{lowered, topped, Liftable, Lifted, Rooted, Detached, DetachedBelow};
+ghost use Rattle.split.specs.Lift.{carried, lowered, topped, Liftable, Lifted, Rooted, Detached, DetachedBelow};
 ghost use Rattle.split.specs.Halved.{Landed, Detachable, Leaving};
 ghost use Rattle.split.specs.Post.{MeetBoth};
 ghost use Rattle.tidy.specs.Climb.{Tidied};
@@ -22,6 +22,31 @@ use search::Stop;
 use tree::Divided;
 use tree::RuleNo;
 use tree::Slot;
+
+// Writes a slot of the second pool with the number and the span of a slot of the first, under a path of `start` bytes, with
+// this label.
+fn carry(
+    words: &[u32],
+    from: Slot,
+    start: usize,
+    label: &[u8],
+    labels2: &mut [u8],
+    words2: &mut [u32],
+    to: Slot,
+)
+    requires { ⌜ (6 * from .0 + 14 ≤ length (now words)) × (start < 4294967296) × (length (now label) ≤ 255) ⌝ }
+    requires { ⌜ Within (now words2) (now labels2) (to .0 + 1) ⌝ }
+    ensures { λ _. ⌜ SlotPut (now (words2 .entry)) (now (labels2 .entry)) (now (words2 .exit)) (now (labels2 .exit)) (to .0) (carried (now (words .entry)) (from .0) start (now (label .entry))) ⌝ }
+{
+    let head = Head {
+        start: start as u32,
+        len: label.len() as u32,
+        has: pool::has_at(words, from) as u32,
+        number: pool::number_at(words, from),
+        span: pool::span_at(words, from) as u32,
+    };
+    pool::put::put_slot(labels2, words2, to, head, label);
+}
 
 // Carries one slot over, under a path that is `base` bytes shorter.
 fn lift_slot(
@@ -39,14 +64,7 @@ fn lift_slot(
 {
     let start = pool::start_at(words, from) - base;
     let label = pool::label_at(labels, words, from);
-    let head = Head {
-        start: start as u32,
-        len: label.len() as u32,
-        has: pool::has_at(words, from) as u32,
-        number: pool::number_at(words, from),
-        span: pool::span_at(words, from) as u32,
-    };
-    pool::put::put_slot(labels2, words2, to, head, label);
+    carry(words, from, start, label, labels2, words2, to);
 }
 
 // Carries `count` slots over.
@@ -131,15 +149,7 @@ fn top_slot(
     ensures { λ _. ⌜ SlotPut (now (words2 .entry)) (now (labels2 .entry)) (now (words2 .exit)) (now (labels2 .exit)) 1 (topped m (recAt (now (words .entry)) (now (labels .entry)) (at .0))) ⌝ }
 {
     let label = pool::label_at(labels, words, at);
-    let rest = &label[m..];
-    let head = Head {
-        start: 0,
-        len: rest.len() as u32,
-        has: pool::has_at(words, at) as u32,
-        number: pool::number_at(words, at),
-        span: pool::span_at(words, at) as u32,
-    };
-    pool::put::put_slot(labels2, words2, Slot(1), head, rest);
+    carry(words, at, 0, &label[m..], labels2, words2, Slot(1));
 }
 
 // Carries the subtree of a slot over, with what is left of its label behind m bytes below an empty root.
