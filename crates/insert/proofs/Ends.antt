@@ -4,6 +4,7 @@ use mathlib.Core.Path.{_≡_, refl, sym, ap, _∙_}
 use mathlib.Core.Bool.{Bool, true, false}
 use mathlib.Core.List.{List, [], _∷_, _++_, append-assoc}
 use mathlib.Core.Option.{none, some}
+use mathlib.Core.Logic.{inl, inr}
 use Prim.Native.Nat.{ℕ, zero, suc, _+_, _*_, _-_, _≤_, _<_}
 use native.Mathlib.Omega.{arith}
 use lib.Dec.{ltb}
@@ -17,7 +18,7 @@ use Rattle.tree.specs.Image.{numbersW}
 use Rattle.tree.specs.Insert.{leaf, insertF, insertT}
 use Rattle.tree.specs.Told.{Told, done}
 use Rattle.tree.specs.Calls.{insertCall}
-use Rattle.tree.specs.Context.{Context, plug, depth, before, Leads}
+use Rattle.tree.specs.Context.{Context, top, down, over, plug, depth, before, Leads}
 use Rattle.tree.proofs.Order.{less, even, more, cmp}
 use Rattle.tree.proofs.Context.{insert-plug}
 use Rattle.pool.specs.Layout.{nodesOf, startOf, lenOf, spanOf, labelOf, numAt}
@@ -28,15 +29,33 @@ use Rattle.pool.specs.Post.{Meets}
 use Rattle.pool.specs.Splice.{Bare, bareAt, baresFrom, nodeBare, baresF, rootBare, baresT, bareOf, frontOf, backOf}
 use Rattle.pool.proofs.Stands.{Stands, Holds, nodes-are, stands-at}
 use Rattle.pool.proofs.Held.{slot-is-rec}
-use Rattle.pool.proofs.Bares.{baresF-length, node-bares, stands-bares, ahead, behind, ahead-length, tree-around}
+use Rattle.pool.proofs.Bares.{Stops, stops-beside, stops-deeper, baresF-length, node-bares, stands-bares, ahead, behind, ahead-length, tree-around}
 use Rattle.search.specs.declared.Stop.{Stop}
 use Rattle.search.specs.declared.Descent.{Descent}
 use Rattle.search.specs.Landing.{Ends, Place, PlaceOf}
 use Rattle.search.proofs.Places.{plug-stands, plug-wf, plug-nodes, nodes-node, leads-drop, leads-length}
 use Rattle.search.proofs.Answers.{Known, tree, tree-is, holds, place, gotAt, get-place, place-within}
-use Rattle.insert.specs.Splices.{leafBares, Cuts, Forks, forkBares, forkSide, forkWas, Placed}
+use Rattle.insert.specs.Splices.{leafBares, Opens, Cuts, Forks, forkBares, forkSide, forkWas, Placed}
 use Rattle.insert.proofs.Steps.{Step, front-whole, front-cut, back-cut, gap-step, same-step, inside-step, before-step, behind-step}
 use Rattle.insert.proofs.Grown.{Splits, placed-meets}
+
+-- Behind the forest in its place comes nothing, or a slot that starts no deeper.
+plug-stops : (ws bs : List ℕ) (n : ℕ) (C : Context) (f : Forest) → Stands ws bs 0 (plug C f) 1 → n ≡ 1 + nodesF (plug C f) → Stops ws n (depth C) (before C + nodesF f)
+unfolding plug depth before
+plug-stops ws bs n top f h e = inl (omega arith)
+plug-stops ws bs n (down b l w rest C) f h e =
+    let s = depth C in
+    let c = before C in
+    let i = plug-stops ws bs n C (node b l w f rest) h e in
+    let z : c + nodesF (node b l w f rest) ≡ c + suc (nodesF f) + nodesF rest = omega (arith, nodes-node b l w f rest) in
+    let r = stands-bares ws bs s rest (c + suc (nodesF f)) (plug-stands ws bs C (node b l w f rest) h .2) in
+    let o = stops-beside ws bs n s (c + suc (nodesF f)) rest r (rw z at i) in
+    let y : c + suc (nodesF f) ≡ c + 1 + nodesF f = omega arith in
+    stops-deeper ws n s (s + suc (length l)) (c + 1 + nodesF f) (omega arith) (rw y at o)
+plug-stops ws bs n (over b l w kids C) f h e =
+    let i = plug-stops ws bs n C (node b l w kids f) h e in
+    let z : before C + nodesF (node b l w kids f) ≡ before C + suc (nodesF kids) + nodesF f = omega (arith, nodes-node b l w kids f) in
+    rw z at i
 
 -- What is left of a key behind n bytes, as the code takes it
 abbrev pub left : Key → ℕ → Key
@@ -95,6 +114,20 @@ module _ {ws bs : List ℕ} {t : Tree} (h : Holds ws bs t) where
         omega (arith, p .above-is, leads-length (p .context) a k (p .y) (p .r) (p .leads)),
       )
 
+  -- what stands in the place starts no deeper
+  gap-beside : (key : Key) (at end up above : ℕ) → PlaceOf t key Stop.Gap at end up above → at < nodesOf ws → startOf ws at ≤ above
+  gap-beside [] at end up above p l = absurd p
+  gap-beside (a ∷ k) at end up above p l =
+      let C = p .context in
+      let f = p .forest in
+      let n = nodesOf ws in
+      let st : Stands ws bs 0 (plug C f) 1 = rw (p .tree) at (h .kids) in
+      let m : nodesF (t .kids) ≡ nodesF (plug C f) = ap nodesF (p .tree) in
+      let o = plug-stops ws bs n C f st (omega (arith, h .nodes, nodes-are t)) in
+      let b = stops-beside ws bs n (depth C) (before C) f (stands-bares ws bs (depth C) f (before C) (plug-stands ws bs C f st)) o in
+      let z : startOf ws at ≡ startOf ws (before C) = ap (startOf ws) (p .at-is) in
+      elim b [ inl q ↦ absurd (omega (arith, p .at-is)) | inr q ↦ omega (arith, p .above-is) ]
+
   pub same-short : (key : Key) (at end up above : ℕ) → PlaceOf t key Stop.Same at end up above → lenOf ws at ≤ 255
   same-short [] at end up above p = absurd p
   same-short (a ∷ k) at end up above p =
@@ -108,7 +141,7 @@ module _ {ws bs : List ℕ} {t : Tree} (h : Holds ws bs t) where
       let n = node-here p (p .y) (p .r ++ e .x ∷ e .tail) (e .num) (e .kids) (e .rest) (e .is) in
       let l = length-append (p .r) (e .x ∷ e .tail) in
       let b = e .bytes in
-      record { used = omega arith; cut = omega arith; short = omega arith; start = omega arith }
+      record { used = omega arith; some = omega arith; cut = omega arith; short = omega arith; start = omega arith }
 
   pub fork-ready : (key : Key) (m at end up above : ℕ) → length key ≤ 4096 → PlaceOf t key (Stop.Fork m) at end up above
       → (above + m < length key) × Forks ws at m (left key (above + m))
@@ -124,9 +157,9 @@ module _ {ws bs : List ℕ} {t : Tree} (h : Holds ws bs t) where
       let q = left-length (a ∷ k) (above + m) in (
         omega arith,
         record {
-          cuts = record { used = omega arith; cut = omega arith; short = omega arith; start = omega arith };
+          cuts = record { used = omega arith; some = omega arith; cut = omega arith; short = omega arith; start = omega arith };
           less = omega arith;
-          some = omega arith;
+          left = omega arith;
           deep = omega arith;
           span = omega arith;
           inside = omega arith;
@@ -282,25 +315,25 @@ root-place t (a ∷ k) at end up above p = absurd (p .ends)
 
 -- What the code places where its search has ended meets the call's contract.
 module _ {ws bs key : List ℕ} {d : Descent} (w : Known ws bs key d) where
-  slots-are : (6 * nodesOf ws + 8 ≤ length ws) × (nodesOf ws ≤ 16384)
-  slots-are = let r = w .rule in (omega (arith, r .lengths, r .room), omega (arith, r .lengths, r .room))
+  slots-are : 6 * nodesOf ws + 8 ≤ length ws
+  slots-are = let r = w .rule in omega (arith, r .lengths, r .room)
 
   -- what is asked at each end
   abbrev SetAsks : Type 0
-  SetAsks = (6 * nodesOf ws + 8 ≤ length ws) × (nodesOf ws ≤ 16384) × (d .at .0 < nodesOf ws) × (lenOf ws (d .at .0) ≤ 255)
+  SetAsks = (6 * nodesOf ws + 8 ≤ length ws) × (d .at .0 < nodesOf ws) × (lenOf ws (d .at .0) ≤ 255)
 
   pub root-asks : d .stop ≡ Stop.Root → SetAsks
   root-asks e =
       let p = place w Stop.Root e in
       let z = root-place (tree w) key (d .at .0) (d .end .0) (d .parent .0) (d .above) p in
       let r = w .rule in
-      (slots-are .0, slots-are .1, omega (arith, z, r .nodes), rw z (omega (arith, r .root-len)))
+      (slots-are, omega (arith, z, r .nodes), rw z (omega (arith, r .root-len)))
 
   pub same-asks : d .stop ≡ Stop.Same → SetAsks
   same-asks e =
       let p = place w Stop.Same e in
       let h = holds w in
-      (slots-are .0, slots-are .1, place-within h key Stop.Same (d .at .0) (d .end .0) (d .parent .0) (d .above) tt p, same-short h key (d .at .0) (d .end .0) (d .parent .0) (d .above) p)
+      (slots-are, place-within h key Stop.Same (d .at .0) (d .end .0) (d .parent .0) (d .above) tt p, same-short h key (d .at .0) (d .end .0) (d .parent .0) (d .above) p)
 
   gap-place : d .stop ≡ Stop.Gap → (d .at .0 ≤ nodesOf ws) × (d .above < length key)
   gap-place e = gap-ready (holds w) key (d .at .0) (d .end .0) (d .parent .0) (d .above) (place w Stop.Gap e)
@@ -308,13 +341,19 @@ module _ {ws bs key : List ℕ} {d : Descent} (w : Known ws bs key d) where
   pub gap-within : d .stop ≡ Stop.Gap → d .above < length key
   gap-within e = gap-place e .1
 
-  pub gap-asks : d .stop ≡ Stop.Gap → PoolRule ws bs × (d .at .0 ≤ nodesOf ws) × (1 ≤ length (left key (d .above))) × (d .above + length (left key (d .above)) ≤ 4096)
+  pub gap-asks : d .stop ≡ Stop.Gap → Opens ws bs (d .at .0) (d .above) (left key (d .above))
   unfolding keyMax
   gap-asks e =
       let p = gap-place e in
       let l = left-length key (d .above) in
       let k = w .short in
-      (w .rule, p .0, omega arith, omega arith)
+      record {
+        rule = w .rule;
+        inside = p .0;
+        beside = λ h. gap-beside (holds w) key (d .at .0) (d .end .0) (d .parent .0) (d .above) (place w Stop.Gap e) h;
+        left = omega arith;
+        deep = omega arith;
+      }
 
   pub inside-asks : (m : ℕ) → d .stop ≡ Stop.Inside m → PoolRule ws bs × Cuts ws (d .at .0) m
   inside-asks m e = (w .rule, inside-ready (holds w) key m (d .at .0) (d .end .0) (d .parent .0) (d .above) (place w (Stop.Inside m) e))

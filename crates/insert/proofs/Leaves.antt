@@ -11,6 +11,8 @@ use Rattle.tree.specs.Map.{Num}
 use Rattle.tree.specs.Tree.{Forest, nil, node, room, nodesF}
 use Rattle.tree.specs.Insert.{chain, leaf}
 use Rattle.tree.proofs.Nodes.{chainNodes, leaf-nodes}
+use Rattle.label.proofs.Moves.{by-lt}
+use Rattle.pool.specs.Layout.{spanOf}
 use Rattle.pool.specs.Records.{run}
 use Rattle.pool.specs.Splice.{Bare, bareAt, baresFrom, nodeBare, baresF, bareOf, Filled}
 use Rattle.pool.proofs.Runs.{run-cons, run-ext}
@@ -98,13 +100,32 @@ leaf-more s (a ∷ k) v l = go (drop 254 k) refl
         ∙ ap (λ (xs : List Bare). bareOf s (a ∷ take 254 k) none ∷ xs)
         (append-nil (baresF (s + suc (length (take 254 k))) (leaf y r v nil)) ∙ ap (λ (n : ℕ). baresF n (leaf y r v nil)) z ∙ ap (λ (q : Key). leafBares (s + 255) q v) (sym e))
 
+-- Each node under the one before it
+abbrev pub Chained : (s : ℕ) → List Bare → Type 0
+Chained s [] = Unit {0}
+Chained s (x ∷ xs) = (x .start ≡ s) × (1 ≤ x .len) × Chained (s + x .len) xs
+
+leaf-under : (fuel s : ℕ) (q : Key) (v : ℕ) → 1 ≤ length q → length q ≤ fuel → Chained s (leafBares s q v)
+leaf-under zero s q v h l = absurd (omega arith)
+leaf-under (suc fuel) s q v h l =
+    by-lt 255 (length q)
+    (λ g.
+    let n = length-take-le 255 q (omega arith) in
+    let d = length-drop 255 q in
+    let z : s + length (take 255 q) ≡ s + 255 = omega arith in
+    rw (leaf-more s q v g) (refl, omega arith, rw z (leaf-under fuel (s + 255) (drop 255 q) v (omega arith) (omega arith))))
+    (λ g. rw (leaf-one s q v h g) (refl, h, tt))
+
+pub leaf-chained : (s : ℕ) (q : Key) (v : ℕ) → 1 ≤ length q → Chained s (leafBares s q v)
+leaf-chained s q v h = leaf-under (length q) s q v h (omega arith)
+
 pub run-one : {A : Type 0} (at : ℕ → A) (i : ℕ) → run at i 1 ≡ at i ∷ []
 unfolding run
 run-one at i = refl
 
 -- The slots that it fills
-pub built-one : {ws bs vs cs : List ℕ} {at : ℕ} {x : Bare} → Filled ws bs vs cs at x → Built ws bs vs cs at (x ∷ [])
-built-one {ws} {bs} {vs} {cs} {at} {x} f =
+pub built-one : {ws bs vs cs : List ℕ} {at : ℕ} {x : Bare} → Filled ws bs vs cs at x → spanOf vs at ≡ 1 → Built ws bs vs cs at (x ∷ [])
+built-one {ws} {bs} {vs} {cs} {at} {x} f s =
     record {
       lenW = f .lenW;
       lenB = f .lenB;
@@ -112,11 +133,14 @@ built-one {ws} {bs} {vs} {cs} {at} {x} f =
       slots = run-one (bareAt vs cs) at ∙ ap (λ (z : Bare). z ∷ []) (f .slot);
       low = λ i h r. f .others i (λ e. omega arith) r;
       high = λ i h r. f .others i (λ e. omega arith) r;
+      low-span = λ i h. f .spans i (λ e. omega arith);
+      new-span = λ i a b. let z : spanOf vs i ≡ spanOf vs at = ap (spanOf vs) (omega arith) in omega arith;
+      high-span = λ i h. f .spans i (λ e. omega arith);
     }
 
 pub built-more : {ws bs us ds vs cs : List ℕ} {at : ℕ} {x : Bare} {xs : List Bare} → 255 * at + 255 ≤ length bs → Filled ws bs us ds at x
-    → Built us ds vs cs (at + 1) xs → Built ws bs vs cs at (x ∷ xs)
-built-more {ws} {bs} {us} {ds} {vs} {cs} {at} {x} {xs} h f b =
+    → spanOf us at ≡ suc (length xs) → Built us ds vs cs (at + 1) xs → Built ws bs vs cs at (x ∷ xs)
+built-more {ws} {bs} {us} {ds} {vs} {cs} {at} {x} {xs} h f s b =
     let ld = f .lenB in
     let e : suc at ≡ at + 1 = omega arith in
     record {
@@ -126,16 +150,23 @@ built-more {ws} {bs} {us} {ds} {vs} {cs} {at} {x} {xs} h f b =
       slots = run-cons (bareAt vs cs) at (length xs) ∙ rw e (cc (b .low at (omega arith) (omega arith), f .slot, b .slots));
       low = λ i l r. b .low i (omega arith) (omega arith) ∙ f .others i (λ q. omega arith) r;
       high = λ i l r. b .high i (omega arith) (omega arith) ∙ f .others i (λ q. omega arith) r;
+      low-span = λ i l. b .low-span i (omega arith) ∙ f .spans i (λ q. omega arith);
+      new-span = λ i l m.
+          by-lt at i
+          (λ g. omega (arith, b .new-span i (omega arith) (omega arith)))
+          (λ g. let z : spanOf vs i ≡ spanOf vs at = ap (spanOf vs) (omega arith) in omega (arith, b .low-span at (omega arith)));
+      high-span = λ i l. b .high-span i (omega arith) ∙ f .spans i (λ q. omega arith);
     }
 
 -- as the code leaves them
 pub built-leaf : (ws bs vs cs : List ℕ) (at s : ℕ) (q : Key) (v : ℕ) → 1 ≤ length q → length q ≤ 255 → Filled ws bs vs cs at (bareOf s q (some v))
-    → Built ws bs vs cs at (leafBares s q v)
-built-leaf ws bs vs cs at s q v h l f = rw (leaf-one s q v h l) (built-one f)
+    → spanOf vs at ≡ 1 → Built ws bs vs cs at (leafBares s q v)
+built-leaf ws bs vs cs at s q v h l f e = rw (leaf-one s q v h l) (built-one f e)
 
 pub built-chain : (ws bs us ds vs cs : List ℕ) (at s : ℕ) (q : Key) (v : ℕ) → 255 * at + 255 ≤ length bs → 255 < length q
-    → Filled ws bs us ds at (bareOf s (take 255 q) none) → Built us ds vs cs (at + 1) (leafBares (s + 255) (take (length q - 255) (drop 255 q)) v)
-    → Built ws bs vs cs at (leafBares s q v)
-built-chain ws bs us ds vs cs at s q v h l f b =
+    → Filled ws bs us ds at (bareOf s (take 255 q) none) → spanOf us at ≡ leafNodes (length q)
+    → Built us ds vs cs (at + 1) (leafBares (s + 255) (take (length q - 255) (drop 255 q)) v) → Built ws bs vs cs at (leafBares s q v)
+built-chain ws bs us ds vs cs at s q v h l f n b =
     let e : take (length q - 255) (drop 255 q) ≡ drop 255 q = take-all (length q - 255) (drop 255 q) (omega (arith, length-drop 255 q)) in
-    rw (leaf-more s q v l) (built-more h f (rw e at b))
+    let c : spanOf us at ≡ suc (length (leafBares (s + 255) (drop 255 q) v)) = n ∙ sym (leaf-length s q v (omega arith)) ∙ ap length (leaf-more s q v l) in
+    rw (leaf-more s q v l) (built-more h f c (rw e at b))

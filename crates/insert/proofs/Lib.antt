@@ -1,5 +1,6 @@
 pub mod Leaves
 pub mod Places
+pub mod Spans
 pub mod Room
 pub mod Steps
 pub mod Grown

@@ -5,16 +5,22 @@ use mathlib.Core.Bool.{true, false}
 use mathlib.Core.Option.{none}
 use Prim.Native.Nat.{ℕ, zero, suc, _+_, _*_, _-_, _≤_, _<_}
 use native.Mathlib.Omega.{arith}
-use lib.ListN.{length, length-append}
+use lib.ListN.{length, take, drop, length-append, length-drop}
+use lib.Seq.{length-take-le}
 use Rattle.tree.specs.Key.{Key}
 use Rattle.tree.specs.Map.{Num}
-use Rattle.pool.specs.Layout.{nodesOf, startOf, lenOf, spanOf}
+use Rattle.pool.specs.Layout.{nodesOf, startOf, lenOf, spanOf, labelOf}
 use Rattle.pool.specs.Records.{run}
-use Rattle.pool.specs.Rule.{Within}
+use Rattle.pool.specs.Rule.{Within, PoolRule}
 use Rattle.pool.specs.Splice.{Bare, bareAt, baresFrom, Moved, frontOf, backOf, Filled}
+use Rattle.pool.specs.Spans.{Loose}
+use Rattle.pool.proofs.Bares.{start-is, len-is}
+use Rattle.pool.proofs.Cuts.{label-length}
+use Rattle.pool.proofs.Spans.{Rests, rule-rests}
 use Rattle.pool.proofs.Runs.{Parts, run-cons, run-whole, run-ext, run-length}
-use Rattle.insert.specs.Splices.{leafNodes, leafBares, Built, Cuts, Replaced, forkBares}
+use Rattle.insert.specs.Splices.{leafNodes, leafBares, Built, Opens, Cuts, Replaced, Forks, forkBares}
 use Rattle.insert.proofs.Leaves.{run-one, leaf-length}
+use Rattle.insert.proofs.Spans.{Like, like, Leafy, leafy-kept, leafy-none, built-leafy, loose-at, leaf-loose, Upper, Lower, before-loose, behind-loose}
 
 -- A slot that says what slot `at` said can be cut like it.
 pub record Cut (ws : List ℕ) (at m : ℕ) : Type 0 where
@@ -46,9 +52,47 @@ opened ws bs us ds vs cs at n k xs e h w l m b =
           b .high (at + length xs + i) (omega arith) (omega arith) ∙ ap (bareAt us ds) j ∙ m .moved (at + i) (omega arith) (omega arith) ∙ ap (bareAt ws bs) z;
     }
 
+-- In a pool of n slots the spans are right.
+rests-are : (ws bs : List ℕ) (n : ℕ) → n ≡ nodesOf ws → PoolRule ws bs → (j : ℕ) → j < n → Rests ws n j
+rests-are ws bs n e r = rw e (rule-rests ws bs r)
+
+pub opened-loose : (ws bs us ds vs cs : List ℕ) (at n k s : ℕ) (q : Key) (v : ℕ) → n ≡ nodesOf ws → Opens ws bs at s q → Within ws bs (n + k) → k ≡ leafNodes (length q)
+    → Moved ws bs us ds at n k → Built us ds vs cs at (leafBares s q v) → Loose vs (nodesOf ws + leafNodes (length q)) at (leafNodes (length q)) 0
+opened-loose ws bs us ds vs cs at n k s q v e o w kn m b =
+    let ld = m .lenB in
+    let wl = w .labels in
+    let inside = o .inside in
+    let l = leaf-length s q v (o .left) ∙ sym kn in
+    let one : 1 ≤ k = omega arith in
+    loose-at (omega arith) kn
+    (leaf-loose ws vs n at k s (rests-are ws bs n e (o .rule)) (omega arith) one (λ h. o .beside (omega arith))
+    (λ i h. like ws bs vs cs i i (b .low i h (omega arith) ∙ m .low i (omega arith)) (b .low-span i h ∙ m .low-span i (omega arith)))
+    (λ i h g. like ws bs vs cs i (i + k) (b .high (i + k) (omega arith) (omega arith) ∙ m .moved i h g) (b .high-span (i + k) (omega arith) ∙ m .moved-span i h g))
+    (built-leafy us ds vs cs at s q v k (o .left) l b))
+
+-- The two parts of a cut
+module _ (ws bs vs cs : List ℕ) (at lo m : ℕ) (cut : m ≤ lenOf ws at) (short : lenOf ws at ≤ 255) (room : 255 * at + 255 ≤ length bs) where
+  pub upper-is : (u : Num) → bareAt vs cs at ≡ frontOf m u (bareAt ws bs at) → spanOf vs at ≡ spanOf ws at → Upper ws vs at m
+  unfolding bareAt
+  upper-is u e s =
+      let x = frontOf m u (bareAt ws bs at) in
+      let n = label-length ws bs at short room in
+      record { start = start-is vs cs at x e; len = len-is vs cs at x e ∙ length-take-le m (labelOf ws bs at) (omega arith); span = s }
+
+  lower-is : bareAt vs cs lo ≡ backOf m (bareAt ws bs at) → spanOf vs lo ≡ spanOf ws at → Lower ws vs at lo m
+  unfolding bareAt
+  lower-is e s =
+      let x = backOf m (bareAt ws bs at) in
+      let n = label-length ws bs at short room in
+      record {
+        start = start-is vs cs lo x e;
+        len = omega (arith, start-is vs cs lo x e, len-is vs cs lo x e, length-drop m (labelOf ws bs at));
+        span = s;
+      }
+
 -- no slot at all
 pub built-none : (ws bs : List ℕ) (at : ℕ) → Built ws bs ws bs at []
-built-none ws bs at = record { lenW = refl; lenB = refl; head = λ j h. refl; slots = unfold run in refl; low = λ i h r. refl; high = λ i h r. refl }
+built-none ws bs at = record { lenW = refl; lenB = refl; head = λ j h. refl; slots = unfold run in refl; low = λ i h r. refl; high = λ i h r. refl; low-span = λ i h. refl; new-span = λ i h l. absurd (omega arith); high-span = λ i h. refl }
 
 -- A cut with the records xs between its parts: the slots from `at` on have moved up by one more than there are xs.
 module _ (ws bs us ds : List ℕ) (at n k m lo : ℕ) (le : lo ≡ at + 1 + k) (e : n ≡ nodesOf ws) (c : Cuts ws at m) (w : Within ws bs (n + 1 + k)) (mv : Moved ws bs us ds at n (1 + k)) where
@@ -102,15 +146,47 @@ module _ (ws bs us ds : List ℕ) (at n k m lo : ℕ) (le : lo ≡ at + 1 + k) (
                 ∙ mv .moved (at + 1 + i) (omega arith) (omega arith);
           }
 
+      -- and the spans that are short
+      pub cut-short : PoolRule ws bs → (vs₃ cs₃ : List ℕ) (u : Num) → x ≡ frontOf m u (bareAt ws bs at) → Filled vs₂ cs₂ vs₃ cs₃ lo (backOf m (bareAt ws bs at))
+          → spanOf vs at ≡ spanOf us at → spanOf vs₃ lo ≡ spanOf vs₂ lo → Leafy vs₂ (at + 1) k (startOf ws at + m) → Loose vs₃ (n + (1 + k)) (at + 1) (1 + k) 0
+      cut-short rule vs₃ cs₃ u ex g own own₂ leaf =
+          let l₁ = mv .lenB in
+          let l₂ = f .lenB in
+          let l₃ = b .lenB in
+          let wl = w .labels in
+          let cu = c .used in
+          let z : lo ≡ at + (1 + k) = omega arith in
+          before-loose ws vs₃ n at k m (rests-are ws bs n e rule) (omega arith) (c .some) (c .cut)
+          (λ i h.
+          like ws bs vs₃ cs₃ i i
+          (g .others i (λ q. omega arith) (omega arith) ∙ b .low i (omega arith) (omega arith) ∙ f .others i (λ q. omega arith) (omega arith) ∙ mv .low i (omega arith))
+          (g .spans i (λ q. omega arith) ∙ b .low-span i (omega arith) ∙ f .spans i (λ q. omega arith) ∙ mv .low-span i (omega arith)))
+          (upper-is ws bs vs₃ cs₃ at lo m (c .cut) (c .short) (omega arith) u
+          (g .others at (λ q. omega arith) (omega arith) ∙ b .low at (omega arith) (omega arith) ∙ f .slot ∙ ex)
+          (g .spans at (λ q. omega arith) ∙ b .low-span at (omega arith) ∙ own ∙ mv .low-span at (omega arith)))
+          (rw (← le)
+          (lower-is ws bs vs₃ cs₃ at lo m (c .cut) (c .short) (omega arith) (g .slot)
+          (own₂ ∙ b .high-span lo (omega arith) ∙ f .spans lo (λ q. omega arith) ∙ ap (spanOf us) z ∙ mv .moved-span at (omega arith) (omega arith))))
+          (λ i h q.
+          like ws bs vs₃ cs₃ i (i + (1 + k))
+          (g .others (i + (1 + k)) (λ y. omega arith) (omega arith) ∙ b .high (i + (1 + k)) (omega arith) (omega arith) ∙ f .others (i + (1 + k)) (λ y. omega arith) (omega arith) ∙ mv .moved i (omega arith) q)
+          (g .spans (i + (1 + k)) (λ y. omega arith) ∙ b .high-span (i + (1 + k)) (omega arith) ∙ f .spans (i + (1 + k)) (λ y. omega arith) ∙ mv .moved-span i (omega arith) q))
+          (leafy-kept vs₂ vs₃ (at + 1) k (startOf ws at + m) (λ i h q. like vs₂ cs₂ vs₃ cs₃ i i (g .others i (λ y. omega arith) (omega arith)) (g .spans i (λ y. omega arith))) leaf)
+
 -- as the code leaves them: each part is made of what stands in its slot
 pub cut-parts : (ws bs us ds vs cs vs₂ cs₂ vs₃ cs₃ : List ℕ) (at n k m lo : ℕ) (u : Num) (xs : List Bare) → lo ≡ at + 1 + k → n ≡ nodesOf ws → Cuts ws at m → Within ws bs (n + 1 + k)
-    → Moved ws bs us ds at n (1 + k) → Filled us ds vs cs at (frontOf m u (bareAt us ds at)) → length xs ≡ k → Built vs cs vs₂ cs₂ (at + 1) xs
-    → Filled vs₂ cs₂ vs₃ cs₃ lo (backOf m (bareAt vs₂ cs₂ lo))
-    → Replaced ws bs vs₃ cs₃ at 1 (frontOf m u (bareAt ws bs at) ∷ xs ++ (backOf m (bareAt ws bs at) ∷ []))
-cut-parts ws bs us ds vs cs vs₂ cs₂ vs₃ cs₃ at n k m lo u xs le e c w mv f l b g =
-    let f′ : Filled us ds vs cs at (frontOf m u (bareAt ws bs at)) = rw (upper-there ws bs us ds at n k m lo le e c w mv) at f in
+    → PoolRule ws bs → Moved ws bs us ds at n (1 + k)
+    → Filled us ds vs cs at (frontOf m u (bareAt us ds at)) × (spanOf vs at ≡ spanOf us at) → length xs ≡ k → Built vs cs vs₂ cs₂ (at + 1) xs
+    → Leafy vs₂ (at + 1) k (startOf ws at + m) → Filled vs₂ cs₂ vs₃ cs₃ lo (backOf m (bareAt vs₂ cs₂ lo)) × (spanOf vs₃ lo ≡ spanOf vs₂ lo)
+    → Replaced ws bs vs₃ cs₃ at 1 (frontOf m u (bareAt ws bs at) ∷ xs ++ (backOf m (bareAt ws bs at) ∷ [])) × Loose vs₃ (nodesOf ws + (1 + k)) (at + 1) (1 + k) 0
+cut-parts ws bs us ds vs cs vs₂ cs₂ vs₃ cs₃ at n k m lo u xs le e c w rule mv f l b leaf g =
+    let f′ : Filled us ds vs cs at (frontOf m u (bareAt ws bs at)) = rw (upper-there ws bs us ds at n k m lo le e c w mv) at (f .0) in
     let o = lower-then ws bs us ds at n k m lo le e c w mv vs cs (frontOf m u (bareAt ws bs at)) f′ vs₂ cs₂ xs l b in
-    cut-around ws bs us ds at n k m lo le e c w mv vs cs (frontOf m u (bareAt ws bs at)) f′ vs₂ cs₂ xs l b vs₃ cs₃ (backOf m (bareAt ws bs at)) (rw o at g)
+    let g′ : Filled vs₂ cs₂ vs₃ cs₃ lo (backOf m (bareAt ws bs at)) = rw o at (g .0) in (
+      cut-around ws bs us ds at n k m lo le e c w mv vs cs (frontOf m u (bareAt ws bs at)) f′ vs₂ cs₂ xs l b vs₃ cs₃ (backOf m (bareAt ws bs at)) g′,
+      loose-at (ap (λ (x : ℕ). x + (1 + k)) e) refl
+          (cut-short ws bs us ds at n k m lo le e c w mv vs cs (frontOf m u (bareAt ws bs at)) f′ vs₂ cs₂ xs l b rule vs₃ cs₃ u refl g′ (f .1) (g .1) leaf),
+    )
 
 -- A cut with the records xs behind the subtree of its lower part, which ends at `end`
 module _ (ws bs us ds us₂ ds₂ : List ℕ) (at n k m end : ℕ) (e : n ≡ nodesOf ws) (c : Cuts ws at m) (w : Within ws bs (n + 1 + k)) (less : at < end) (most : end ≤ n)
@@ -191,37 +267,96 @@ module _ (ws bs us ds us₂ ds₂ : List ℕ) (at n k m end : ℕ) (e : n ≡ no
                 ∙ ap (bareAt ws bs) z;
           }
 
+      -- and the spans that are short
+      pub behind-short : PoolRule ws bs → end ≡ at + spanOf ws at → m < lenOf ws at → 1 ≤ k → x ≡ frontOf m none (bareAt ws bs at) → y ≡ backOf m (bareAt ws bs at)
+          → spanOf vs at ≡ spanOf us₂ at → spanOf vs₂ (at + 1) ≡ spanOf vs (at + 1) → Leafy vs₃ (end + 1) k (startOf ws at + m) → Loose vs₃ (n + (1 + k)) (at + 1) (1 + k) 0
+      behind-short rule ended cut one ex ey own own₂ leaf =
+          let l₁ = mv .lenB in
+          let l₂ = mv₂ .lenB in
+          let l₃ = f .lenB in
+          let l₄ = g .lenB in
+          let wl = w .labels in
+          behind-loose ws vs₃ n at end k m (rests-are ws bs n e rule) (omega arith) ended (c .some) cut one
+          (λ i h.
+          like ws bs vs₃ cs₃ i i
+          (b .low i (omega arith) (omega arith) ∙ g .others i (λ q. omega arith) (omega arith) ∙ f .others i (λ q. omega arith) (omega arith) ∙ mv₂ .low i (omega arith) ∙ mv .low i (omega arith))
+          (b .low-span i (omega arith) ∙ g .spans i (λ q. omega arith) ∙ f .spans i (λ q. omega arith) ∙ mv₂ .low-span i (omega arith) ∙ mv .low-span i (omega arith)))
+          (upper-is ws bs vs₃ cs₃ at (at + 1) m (c .cut) (c .short) (omega arith) none
+          (b .low at (omega arith) (omega arith) ∙ g .others at (λ q. omega arith) (omega arith) ∙ f .slot ∙ ex)
+          (b .low-span at (omega arith) ∙ g .spans at (λ q. omega arith) ∙ own ∙ mv₂ .low-span at (omega arith) ∙ mv .low-span at (omega arith)))
+          (lower-is ws bs vs₃ cs₃ at (at + 1) m (c .cut) (c .short) (omega arith)
+          (b .low (at + 1) (omega arith) (omega arith) ∙ g .slot ∙ ey)
+          (b .low-span (at + 1) (omega arith) ∙ own₂ ∙ f .spans (at + 1) (λ q. omega arith) ∙ mv₂ .moved-span at (omega arith) less ∙ mv .low-span at (omega arith)))
+          (λ i h q.
+          like ws bs vs₃ cs₃ i (i + 1)
+          (b .low (i + 1) (omega arith) (omega arith) ∙ g .others (i + 1) (λ z. omega arith) (omega arith) ∙ f .others (i + 1) (λ z. omega arith) (omega arith) ∙ higher i (omega arith) q)
+          (b .low-span (i + 1) (omega arith) ∙ g .spans (i + 1) (λ z. omega arith) ∙ f .spans (i + 1) (λ z. omega arith) ∙ mv₂ .moved-span i (omega arith) q ∙ mv .low-span i (omega arith)))
+          (λ i h q.
+          like ws bs vs₃ cs₃ i (i + (1 + k))
+          (b .high (i + (1 + k)) (omega arith) (omega arith)
+          ∙ g .others (i + (1 + k)) (λ z. omega arith) (omega arith)
+          ∙ f .others (i + (1 + k)) (λ z. omega arith) (omega arith)
+          ∙ mv₂ .high (i + (1 + k)) (omega arith) (omega arith)
+          ∙ mv .moved i h q)
+          (b .high-span (i + (1 + k)) (omega arith)
+          ∙ g .spans (i + (1 + k)) (λ z. omega arith)
+          ∙ f .spans (i + (1 + k)) (λ z. omega arith)
+          ∙ mv₂ .high-span (i + (1 + k)) (omega arith)
+          ∙ mv .moved-span i h q))
+          leaf
+
 -- as the code leaves them, where the subtree has so many nodes
 pub behind-parts : (ws bs us ds us₂ ds₂ vs cs vs₂ cs₂ vs₃ cs₃ : List ℕ) (at n k m span : ℕ) (xs : List Bare) → n ≡ nodesOf ws → Cuts ws at m → Within ws bs (n + 1 + k)
-    → 1 ≤ span → at + span ≤ n → Moved ws bs us ds (at + span) n (1 + k) → Moved us ds us₂ ds₂ at (at + span) 1
-    → Filled us₂ ds₂ vs cs at (frontOf m none (bareAt us₂ ds₂ at)) → Filled vs cs vs₂ cs₂ (at + 1) (backOf m (bareAt vs cs (at + 1)))
-    → length xs ≡ k → Built vs₂ cs₂ vs₃ cs₃ (at + span + 1) xs
+    → 1 ≤ span → at + span ≤ n → PoolRule ws bs → span ≡ spanOf ws at → m < lenOf ws at → 1 ≤ k → Moved ws bs us ds (at + span) n (1 + k) → Moved us ds us₂ ds₂ at (at + span) 1
+    → Filled us₂ ds₂ vs cs at (frontOf m none (bareAt us₂ ds₂ at)) × (spanOf vs at ≡ spanOf us₂ at)
+    → Filled vs cs vs₂ cs₂ (at + 1) (backOf m (bareAt vs cs (at + 1))) × (spanOf vs₂ (at + 1) ≡ spanOf vs (at + 1))
+    → length xs ≡ k → Built vs₂ cs₂ vs₃ cs₃ (at + span + 1) xs → Leafy vs₃ (at + span + 1) k (startOf ws at + m)
     → Replaced ws bs vs₃ cs₃ at span (frontOf m none (bareAt ws bs at) ∷ (backOf m (bareAt ws bs at) ∷ baresFrom ws bs (at + 1) (span - 1)) ++ xs)
-behind-parts ws bs us ds us₂ ds₂ vs cs vs₂ cs₂ vs₃ cs₃ at n k m span xs e c w one most mv mv₂ f g l b =
+    × Loose vs₃ (nodesOf ws + (1 + k)) (at + 1) (1 + k) 0
+behind-parts ws bs us ds us₂ ds₂ vs cs vs₂ cs₂ vs₃ cs₃ at n k m span xs e c w one most rule sp cut some mv mv₂ f g l b leaf =
     let h : at < at + span = omega arith in
-    let f′ : Filled us₂ ds₂ vs cs at (frontOf m none (bareAt ws bs at)) = rw (high-upper ws bs us ds us₂ ds₂ at n k m (at + span) e c w h most mv mv₂) at f in
+    let f′ : Filled us₂ ds₂ vs cs at (frontOf m none (bareAt ws bs at)) = rw (high-upper ws bs us ds us₂ ds₂ at n k m (at + span) e c w h most mv mv₂) at (f .0) in
     let o = high-lower ws bs us ds us₂ ds₂ at n k m (at + span) e c w h most mv mv₂ vs cs (frontOf m none (bareAt ws bs at)) f′ in
     let p : at + span - at ≡ span = omega arith in
     let q : at + span - (at + 1) ≡ span - 1 = omega arith in
-    rw (p, q) at
-    (cut-behind ws bs us ds us₂ ds₂ at n k m (at + span) e c w h most mv mv₂ vs cs (frontOf m none (bareAt ws bs at)) f′ vs₂ cs₂ (backOf m (bareAt ws bs at)) (rw o at g) vs₃ cs₃ xs l b)
+    let g′ : Filled vs cs vs₂ cs₂ (at + 1) (backOf m (bareAt ws bs at)) = rw o at (g .0) in (
+      rw (p, q) at
+          (cut-behind ws bs us ds us₂ ds₂ at n k m (at + span) e c w h most mv mv₂ vs cs (frontOf m none (bareAt ws bs at)) f′ vs₂ cs₂ (backOf m (bareAt ws bs at)) g′ vs₃ cs₃ xs l b),
+      loose-at (ap (λ (x : ℕ). x + (1 + k)) e) refl
+          (behind-short ws bs us ds us₂ ds₂ at n k m (at + span) e c w h most mv mv₂ vs cs (frontOf m none (bareAt ws bs at)) f′ vs₂ cs₂ (backOf m (bareAt ws bs at)) g′ vs₃ cs₃ xs l b
+          rule (ap (λ (x : ℕ). at + x) sp) cut some refl refl (f .1) (g .1) leaf),
+    )
+
+-- The spans that a fork leaves short, as its contract counts them
+abbrev pub Short : (ws vs : List ℕ) (at : ℕ) (q : Key) → Type 0
+Short ws vs at q = Loose vs (nodesOf ws + (1 + leafNodes (length q))) (at + 1) (1 + leafNodes (length q)) 0
 
 -- The same with the leaf of a key, for the start and the span that the code has read
-module _ (ws bs us ds : List ℕ) (at n k m start : ℕ) (q : Key) (v : ℕ) (st : start ≡ startOf ws at) (e : n ≡ nodesOf ws) (c : Cuts ws at m) (w : Within ws bs (n + 1 + k))
-    (one : 1 ≤ length q) (kn : k ≡ leafNodes (length q)) where
+module _ (ws bs us ds : List ℕ) (at n k m start : ℕ) (q : Key) (v : ℕ) (st : start ≡ startOf ws at) (e : n ≡ nodesOf ws) (fork : Forks ws at m q) (w : Within ws bs (n + 1 + k))
+    (rule : PoolRule ws bs) (kn : k ≡ leafNodes (length q)) where
   leaf-count : length (leafBares (startOf ws at + m) q v) ≡ k
-  leaf-count = leaf-length (startOf ws at + m) q v one ∙ sym kn
+  leaf-count = leaf-length (startOf ws at + m) q v (fork .left) ∙ sym kn
 
-  pub forked-before : (vs cs vs₂ cs₂ vs₃ cs₃ : List ℕ) → Moved ws bs us ds at n (1 + k) → Filled us ds vs cs at (frontOf m none (bareAt us ds at))
-      → Built vs cs vs₂ cs₂ (at + 1) (leafBares (start + m) q v) → Filled vs₂ cs₂ vs₃ cs₃ (at + 1 + k) (backOf m (bareAt vs₂ cs₂ (at + 1 + k)))
-      → Replaced ws bs vs₃ cs₃ at 1 (forkBares ws bs at m q v true)
+  short-is : (vs : List ℕ) → Loose vs (nodesOf ws + (1 + k)) (at + 1) (1 + k) 0 → Short ws vs at q
+  short-is vs o = loose-at (ap (λ (x : ℕ). nodesOf ws + (1 + x)) kn) (ap (λ (x : ℕ). 1 + x) kn) o
+
+  pub forked-before : (vs cs vs₂ cs₂ vs₃ cs₃ : List ℕ) → Moved ws bs us ds at n (1 + k) → Filled us ds vs cs at (frontOf m none (bareAt us ds at)) × (spanOf vs at ≡ spanOf us at)
+      → Built vs cs vs₂ cs₂ (at + 1) (leafBares (start + m) q v)
+      → Filled vs₂ cs₂ vs₃ cs₃ (at + 1 + k) (backOf m (bareAt vs₂ cs₂ (at + 1 + k))) × (spanOf vs₃ (at + 1 + k) ≡ spanOf vs₂ (at + 1 + k))
+      → Replaced ws bs vs₃ cs₃ at 1 (forkBares ws bs at m q v true) × Short ws vs₃ at q
   forked-before vs cs vs₂ cs₂ vs₃ cs₃ mv f b g =
-      cut-parts ws bs us ds vs cs vs₂ cs₂ vs₃ cs₃ at n k m (at + 1 + k) none (leafBares (startOf ws at + m) q v) refl e c w mv f leaf-count (rw st at b) g
+      let b′ : Built vs cs vs₂ cs₂ (at + 1) (leafBares (startOf ws at + m) q v) = rw st at b in
+      let r = cut-parts ws bs us ds vs cs vs₂ cs₂ vs₃ cs₃ at n k m (at + 1 + k) none (leafBares (startOf ws at + m) q v) refl e (fork .cuts) w rule mv f leaf-count b′
+      (built-leafy vs cs vs₂ cs₂ (at + 1) (startOf ws at + m) q v k (fork .left) leaf-count b′) g in
+      (r .0, short-is vs₃ (r .1))
 
   pub forked-behind : (us₂ ds₂ vs cs vs₂ cs₂ vs₃ cs₃ : List ℕ) (span : ℕ) → span ≡ spanOf ws at → 1 ≤ span → at + span ≤ n
       → Moved ws bs us ds (at + span) n (1 + k) → Moved us ds us₂ ds₂ at (at + span) 1
-      → Filled us₂ ds₂ vs cs at (frontOf m none (bareAt us₂ ds₂ at)) → Filled vs cs vs₂ cs₂ (at + 1) (backOf m (bareAt vs cs (at + 1)))
-      → Built vs₂ cs₂ vs₃ cs₃ (at + span + 1) (leafBares (start + m) q v) → Replaced ws bs vs₃ cs₃ at (spanOf ws at) (forkBares ws bs at m q v false)
+      → Filled us₂ ds₂ vs cs at (frontOf m none (bareAt us₂ ds₂ at)) × (spanOf vs at ≡ spanOf us₂ at)
+      → Filled vs cs vs₂ cs₂ (at + 1) (backOf m (bareAt vs cs (at + 1))) × (spanOf vs₂ (at + 1) ≡ spanOf vs (at + 1))
+      → Built vs₂ cs₂ vs₃ cs₃ (at + span + 1) (leafBares (start + m) q v) → Replaced ws bs vs₃ cs₃ at (spanOf ws at) (forkBares ws bs at m q v false) × Short ws vs₃ at q
   forked-behind us₂ ds₂ vs cs vs₂ cs₂ vs₃ cs₃ span sp some most mv mv₂ f g b =
-      rw (← sp)
-      (behind-parts ws bs us ds us₂ ds₂ vs cs vs₂ cs₂ vs₃ cs₃ at n k m span (leafBares (startOf ws at + m) q v) e c w some most mv mv₂ f g leaf-count (rw st at b))
+      let b′ : Built vs₂ cs₂ vs₃ cs₃ (at + span + 1) (leafBares (startOf ws at + m) q v) = rw st at b in
+      let r = behind-parts ws bs us ds us₂ ds₂ vs cs vs₂ cs₂ vs₃ cs₃ at n k m span (leafBares (startOf ws at + m) q v) e (fork .cuts) w some most rule sp (fork .less) (omega arith) mv mv₂ f g leaf-count b′
+      (built-leafy vs₂ cs₂ vs₃ cs₃ (at + span + 1) (startOf ws at + m) q v k (fork .left) leaf-count b′) in
+      (rw (← sp) (r .0), short-is vs₃ (r .1))

@@ -14,10 +14,15 @@ use Rattle.tree.specs.Told.{Told, done, refusal}
 use Rattle.pool.specs.Layout.{nodesOf, lenOf, spanOf, labelOf, startOf}
 use Rattle.pool.specs.Pool.{slotsIn}
 use Rattle.pool.specs.Rule.{PoolRule}
-use Rattle.pool.specs.Splice.{Bare, bareAt, baresFrom, Filled, Settled, backOf}
+use Rattle.pool.specs.Splice.{Bare, bareAt, baresFrom, Filled, Settled, frontOf, backOf}
+use Rattle.pool.specs.Spans.{Covers}
+use Rattle.label.proofs.Moves.{by-eq}
 use Rattle.pool.proofs.Runs.{run-length}
+use Rattle.pool.proofs.Spans.{covers-linked, covers-same, covers-to, rule-rests}
 use Rattle.insert.specs.Splices.{leafNodes, leafBares, Replaced, forkBares, forkSide, forkWas, total, Placed, full, grown}
 use Rattle.insert.proofs.Leaves.{run-one, leaf-length}
+use Rattle.insert.proofs.Spans.{Like, like}
+use Rattle.insert.proofs.Places.{upper-is}
 
 module _ (ws bs : List ℕ) (at was : ℕ) (xs : List Bare) (said : Told) (all : ℕ) (count : all ≡ total ws was xs) where
   pub placed-full : length bs / 255 < all → Placed ws bs ws bs at was xs said (refusal 4)
@@ -69,8 +74,28 @@ pub told-old : (w : Num) (v : ℕ) → some v ≡ w → done (v ∷ []) ≡ done
 unfolding numbersW
 told-old w v e = rw (← e) refl
 
-pub number-placed : (ws bs us vs : List ℕ) (at n : ℕ) (x : Bare) (said told : Told) → PoolRule ws bs → n ≡ nodesOf ws → at < nodesOf ws → told ≡ said
-    → Filled ws bs us bs at x → Settled us vs n → Placed ws bs vs bs at 1 (x ∷ []) said told
-number-placed ws bs us vs at n x said told r e l t f s =
-    let c : n ≡ total ws 1 (x ∷ []) = omega arith in
-    grown us t (omega (arith, r .lengths, r .room)) (replaced-one ws bs us bs at x (omega (arith, r .lengths, r .room)) l f) (rw c at s)
+-- Where every slot says what it said, but for its number, the spans are right.
+settled-same : (ws bs us : List ℕ) → PoolRule ws bs → nodesOf us ≡ nodesOf ws → ((i : ℕ) → i < nodesOf ws → Like ws us i i) → Settled us us (nodesOf ws)
+settled-same ws bs us r e h =
+    let n = nodesOf ws in
+    let covers : (j : ℕ) → j < n → Covers us n j (j + spanOf us j) =
+    λ j l. covers-to (omega (arith, h j l .span)) (covers-same us (λ i q. h i q .start) (λ i q. h i q .len) (rule-rests ws bs r j l .covers)) in
+    record { len = refl; nodes = e; spans = covers-linked us n covers; bares = λ ds i. refl }
+
+-- A number is set: the pool is settled as it stands.
+pub number-placed : (ws bs us : List ℕ) (at len : ℕ) (w : Num) (said told : Told) → len ≡ lenOf ws at → PoolRule ws bs → at < nodesOf ws → lenOf ws at ≤ 255 → told ≡ said
+    → Filled ws bs us bs at (frontOf len w (bareAt ws bs at)) → spanOf us at ≡ spanOf ws at
+    → Placed ws bs us bs at 1 (frontOf (lenOf ws at) w (bareAt ws bs at) ∷ []) said told
+number-placed ws bs us at len w said told el r l short t f own =
+    let m = lenOf ws at in
+    let x = frontOf m w (bareAt ws bs at) in
+    let g : Filled ws bs us bs at x = rw el at f in
+    let room : 255 * nodesOf ws ≤ length bs = omega (arith, r .lengths, r .room) in
+    let up = upper-is ws bs us bs at at m (omega arith) short (omega arith) w (g .slot) own in
+    let same : (i : ℕ) → i < nodesOf ws → Like ws us i i =
+    λ i q.
+    by-eq i at
+    (λ z. rw z (record { start = up .start; len = up .len; span = up .span }))
+    (λ ne. like ws bs us bs i i (g .others i ne (omega arith)) (g .spans i ne)) in
+    let c : nodesOf ws ≡ total ws 1 (x ∷ []) = omega arith in
+    grown us t (omega (arith, r .lengths, r .room)) (replaced-one ws bs us bs at x room l g) (rw c at (settled-same ws bs us r (g .head 0 (omega arith)) same))

@@ -13,6 +13,7 @@ use Rattle.tree.specs.Insert.{leaf}
 use Rattle.tree.specs.Told.{Told, refusal}
 use Rattle.pool.specs.Layout.{nodesOf, startOf, lenOf, spanOf, labelOf}
 use Rattle.pool.specs.Pool.{slotsIn}
+use Rattle.pool.specs.Rule.{PoolRule}
 use Rattle.pool.specs.Splice.{Bare, bareAt, baresFrom, baresF, frontOf, backOf, Settled}
 
 -- The nodes of a new label of so many bytes: 255 are one node, 256 are two.
@@ -24,7 +25,7 @@ abbrev pub leafBares : (s : ℕ) (q : Key) (v : ℕ) → List Bare
 leafBares s [] v = []
 leafBares s (a ∷ k) v = baresF s (leaf a k v nil)
 
--- The slots from `at` on say xs, and every other slot what it said.
+-- The slots from `at` on say xs, each over those behind it, and every other slot says what it said, with its span.
 pub record Built (ws bs vs cs : List ℕ) (at : ℕ) (xs : List Bare) : Type 0 where
   pub lenW : length vs ≡ length ws
   pub lenB : length cs ≡ length bs
@@ -32,10 +33,22 @@ pub record Built (ws bs vs cs : List ℕ) (at : ℕ) (xs : List Bare) : Type 0 w
   pub slots : baresFrom vs cs at (length xs) ≡ xs
   pub low : (i : ℕ) → i < at → 255 * i + 255 ≤ length bs → bareAt vs cs i ≡ bareAt ws bs i
   pub high : (i : ℕ) → at + length xs ≤ i → 255 * i + 255 ≤ length bs → bareAt vs cs i ≡ bareAt ws bs i
+  pub low-span : (i : ℕ) → i < at → spanOf vs i ≡ spanOf ws i
+  pub new-span : (i : ℕ) → at ≤ i → i < at + length xs → i + spanOf vs i ≡ at + length xs
+  pub high-span : (i : ℕ) → at + length xs ≤ i → spanOf vs i ≡ spanOf ws i
 
--- Slot `at` is in use, and its label can be cut behind m bytes.
+-- A leaf for the bytes q can stand at slot `at`, under a path of `start` bytes: what stood there starts no deeper.
+pub record Opens (ws bs : List ℕ) (at start : ℕ) (q : Key) : Type 0 where
+  pub rule : PoolRule ws bs
+  pub inside : at ≤ nodesOf ws
+  pub beside : at < nodesOf ws → startOf ws at ≤ start
+  pub left : 1 ≤ length q
+  pub deep : start + length q ≤ 4096
+
+-- Slot `at` is in use, and its label can be cut behind m bytes, of which there are some.
 pub record Cuts (ws : List ℕ) (at m : ℕ) : Type 0 where
   pub used : at < nodesOf ws
+  pub some : 1 ≤ m
   pub cut : m ≤ lenOf ws at
   pub short : lenOf ws at ≤ 255
   pub start : startOf ws at ≤ 4096
@@ -63,7 +76,7 @@ forkSide ws bs at m q = ltb (getD q 0 0) (getD (labelOf ws bs at) m 0)
 pub record Forks (ws : List ℕ) (at m : ℕ) (q : Key) : Type 0 where
   pub cuts : Cuts ws at m
   pub less : m < lenOf ws at
-  pub some : 1 ≤ length q
+  pub left : 1 ≤ length q
   pub deep : startOf ws at + m + length q ≤ 4096
   pub span : 1 ≤ spanOf ws at
   pub inside : at + spanOf ws at ≤ nodesOf ws

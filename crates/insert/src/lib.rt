@@ -1,5 +1,6 @@
 // Insert: the key is looked up, and the tree grows where the search has come to, by a leaf, a cut or both. A splice moves
-// each record behind the place once; then the spans are put right. Counterparts: `insert`, `split_at` and `new` of the Rust.
+// each record behind the place once, with its span; then the spans of the ancestors grow. Counterparts: `insert`, `split_at`
+// and `new` of the Rust.
 ghost use mathlib.Core.Path.{_≡_};
 ghost use mathlib.Core.Bool.{true, false};
 ghost use mathlib.Core.List.{List, [], _∷_};
@@ -12,10 +13,11 @@ ghost use Rattle.tree.specs.Told.{done, insertedTold};
 ghost use Rattle.tree.specs.Calls.{insertCall};
 ghost use Rattle.pool.specs.Pool.{poolTree, slotsIn};
 ghost use Rattle.pool.specs.Post.{Meets};
-ghost use Rattle.pool.specs.Layout.{nodesOf, startOf, lenOf, spanOf, numAt};
+ghost use Rattle.pool.specs.Layout.{nodesOf, lenOf, spanOf, numAt};
 ghost use Rattle.pool.specs.Rule.{Within, PoolRule};
 ghost use Rattle.pool.specs.Splice.{bareAt, frontOf, backOf};
-ghost use Rattle.insert.specs.Splices.{leafNodes, leafBares, Built, Cuts, Replaced, Forks, forkBares, forkSide, forkWas, Placed};
+ghost use Rattle.pool.specs.Spans.{Loose};
+ghost use Rattle.insert.specs.Splices.{leafNodes, leafBares, Built, Opens, Cuts, Replaced, Forks, forkBares, forkSide, forkWas, Placed};
 use pool::splice::Stored;
 use search::Stop;
 use tree::Inserted;
@@ -37,15 +39,24 @@ fn chain(labels: &mut [u8], words: &mut [u32], at: Slot, start: usize, rest: &[u
     ensures { λ _. ⌜ Built (now (words .entry)) (now (labels .entry)) (now (words .exit)) (now (labels .exit)) (at .0) (leafBares start (now (rest .entry)) (number .0)) ⌝ }
 {
     if rest.len() <= 255 {
-        pool::splice::put_node(labels, words, at, start, rest, Stored::Number(number));
+        pool::splice::put_linked(labels, words, at, start, rest, Stored::Number(number), 1);
         return;
     }
-    pool::splice::put_node(labels, words, at, start, &rest[0..255], Stored::Nothing);
+    let span = chain_nodes(rest.len());
+    pool::splice::put_linked(
+        labels,
+        words,
+        at,
+        start,
+        &rest[0..255],
+        Stored::Nothing,
+        span,
+    );
     let next = at.0 + 1;
     chain(labels, words, Slot(next), start + 255, &rest[255..], number);
 }
 
-// Opens a gap at the slot, and builds a new leaf in it.
+// Opens a gap at the slot, and builds a new leaf in it. Only the spans of its ancestors are short then.
 fn open_leaf(
     labels: &mut [u8],
     words: &mut [u32],
@@ -54,8 +65,8 @@ fn open_leaf(
     rest: &[u8],
     number: RuleNo,
 )
-    requires { ⌜ Within (now words) (now labels) (nodesOf (now words) + leafNodes (length (now rest))) × (at .0 ≤ nodesOf (now words)) × (1 ≤ length (now rest)) × (start + length (now rest) ≤ 4096) ⌝ }
-    ensures { λ _. ⌜ Replaced (now (words .entry)) (now (labels .entry)) (now (words .exit)) (now (labels .exit)) (at .0) 0 (leafBares start (now (rest .entry)) (number .0)) ⌝ }
+    requires { ⌜ Within (now words) (now labels) (nodesOf (now words) + leafNodes (length (now rest))) × Opens (now words) (now labels) (at .0) start (now rest) ⌝ }
+    ensures { λ _. ⌜ Replaced (now (words .entry)) (now (labels .entry)) (now (words .exit)) (now (labels .exit)) (at .0) 0 (leafBares start (now (rest .entry)) (number .0)) × Loose (now (words .exit)) (nodesOf (now (words .entry)) + leafNodes (length (now (rest .entry)))) (at .0) (leafNodes (length (now (rest .entry)))) 0 ⌝ }
 {
     let n = pool::nodes_in(words);
     let k = chain_nodes(rest.len());
@@ -66,8 +77,8 @@ fn open_leaf(
 // Cuts the label of the slot behind m bytes: the upper part gets the number, the lower part keeps what was there.
 // Counterpart: `split_at`.
 fn cut_label(labels: &mut [u8], words: &mut [u32], at: Slot, m: usize, number: RuleNo)
-    requires { ⌜ Within (now words) (now labels) (nodesOf (now words) + 1) × Cuts (now words) (at .0) m ⌝ }
-    ensures { λ _. ⌜ Replaced (now (words .entry)) (now (labels .entry)) (now (words .exit)) (now (labels .exit)) (at .0) 1 (frontOf m (some (number .0)) (bareAt (now (words .entry)) (now (labels .entry)) (at .0)) ∷ backOf m (bareAt (now (words .entry)) (now (labels .entry)) (at .0)) ∷ []) ⌝ }
+    requires { ⌜ Within (now words) (now labels) (nodesOf (now words) + 1) × Cuts (now words) (at .0) m × PoolRule (now words) (now labels) ⌝ }
+    ensures { λ _. ⌜ Replaced (now (words .entry)) (now (labels .entry)) (now (words .exit)) (now (labels .exit)) (at .0) 1 (frontOf m (some (number .0)) (bareAt (now (words .entry)) (now (labels .entry)) (at .0)) ∷ backOf m (bareAt (now (words .entry)) (now (labels .entry)) (at .0)) ∷ []) × Loose (now (words .exit)) (nodesOf (now (words .entry)) + 1) (at .0 + 1) 1 0 ⌝ }
 {
     let n = pool::nodes_in(words);
     let lower = at.0 + 1;
@@ -85,8 +96,8 @@ fn fork_before(
     rest: &[u8],
     number: RuleNo,
 )
-    requires { ⌜ Within (now words) (now labels) (nodesOf (now words) + 1 + leafNodes (length (now rest))) × Cuts (now words) (at .0) m × (1 ≤ length (now rest)) × (startOf (now words) (at .0) + m + length (now rest) ≤ 4096) ⌝ }
-    ensures { λ _. ⌜ Replaced (now (words .entry)) (now (labels .entry)) (now (words .exit)) (now (labels .exit)) (at .0) 1 (forkBares (now (words .entry)) (now (labels .entry)) (at .0) m (now (rest .entry)) (number .0) true) ⌝ }
+    requires { ⌜ Within (now words) (now labels) (nodesOf (now words) + 1 + leafNodes (length (now rest))) × Forks (now words) (at .0) m (now rest) × PoolRule (now words) (now labels) ⌝ }
+    ensures { λ _. ⌜ Replaced (now (words .entry)) (now (labels .entry)) (now (words .exit)) (now (labels .exit)) (at .0) 1 (forkBares (now (words .entry)) (now (labels .entry)) (at .0) m (now (rest .entry)) (number .0) true) × Loose (now (words .exit)) (nodesOf (now (words .entry)) + (1 + leafNodes (length (now (rest .entry))))) (at .0 + 1) (1 + leafNodes (length (now (rest .entry)))) 0 ⌝ }
 {
     let n = pool::nodes_in(words);
     let k = chain_nodes(rest.len());
@@ -108,8 +119,8 @@ fn fork_behind(
     rest: &[u8],
     number: RuleNo,
 )
-    requires { ⌜ Within (now words) (now labels) (nodesOf (now words) + 1 + leafNodes (length (now rest))) × Cuts (now words) (at .0) m × (1 ≤ length (now rest)) × (startOf (now words) (at .0) + m + length (now rest) ≤ 4096) × (1 ≤ spanOf (now words) (at .0)) × (at .0 + spanOf (now words) (at .0) ≤ nodesOf (now words)) ⌝ }
-    ensures { λ _. ⌜ Replaced (now (words .entry)) (now (labels .entry)) (now (words .exit)) (now (labels .exit)) (at .0) (spanOf (now (words .entry)) (at .0)) (forkBares (now (words .entry)) (now (labels .entry)) (at .0) m (now (rest .entry)) (number .0) false) ⌝ }
+    requires { ⌜ Within (now words) (now labels) (nodesOf (now words) + 1 + leafNodes (length (now rest))) × Forks (now words) (at .0) m (now rest) × PoolRule (now words) (now labels) ⌝ }
+    ensures { λ _. ⌜ Replaced (now (words .entry)) (now (labels .entry)) (now (words .exit)) (now (labels .exit)) (at .0) (spanOf (now (words .entry)) (at .0)) (forkBares (now (words .entry)) (now (labels .entry)) (at .0) m (now (rest .entry)) (number .0) false) × Loose (now (words .exit)) (nodesOf (now (words .entry)) + (1 + leafNodes (length (now (rest .entry))))) (at .0 + 1) (1 + leafNodes (length (now (rest .entry)))) 0 ⌝ }
 {
     let n = pool::nodes_in(words);
     let k = chain_nodes(rest.len());
@@ -129,13 +140,15 @@ fn byte_below(labels: &[u8], words: &[u32], at: Slot, m: usize, rest: &[u8]) -> 
     ensures { λ r. ⌜ r ≡ forkSide (now (words .entry)) (now (labels .entry)) (at .0) m (now (rest .entry)) ⌝ }
 {
     let label = pool::label_at(labels, words, at);
-    rest[0] < label[m]
+    let new = rest[0];
+    let old = label[m];
+    new < old
 }
 
 // Cuts the label of the slot behind m bytes, with a new leaf beside the lower part, in the order of their first bytes.
 fn fork_label(labels: &mut [u8], words: &mut [u32], at: Slot, m: usize, rest: &[u8], number: RuleNo)
-    requires { ⌜ Within (now words) (now labels) (nodesOf (now words) + 1 + leafNodes (length (now rest))) × Forks (now words) (at .0) m (now rest) ⌝ }
-    ensures { λ _. ⌜ Replaced (now (words .entry)) (now (labels .entry)) (now (words .exit)) (now (labels .exit)) (at .0) (forkWas (now (words .entry)) (at .0) (forkSide (now (words .entry)) (now (labels .entry)) (at .0) m (now (rest .entry)))) (forkBares (now (words .entry)) (now (labels .entry)) (at .0) m (now (rest .entry)) (number .0) (forkSide (now (words .entry)) (now (labels .entry)) (at .0) m (now (rest .entry)))) ⌝ }
+    requires { ⌜ Within (now words) (now labels) (nodesOf (now words) + 1 + leafNodes (length (now rest))) × Forks (now words) (at .0) m (now rest) × PoolRule (now words) (now labels) ⌝ }
+    ensures { λ _. ⌜ Replaced (now (words .entry)) (now (labels .entry)) (now (words .exit)) (now (labels .exit)) (at .0) (forkWas (now (words .entry)) (at .0) (forkSide (now (words .entry)) (now (labels .entry)) (at .0) m (now (rest .entry)))) (forkBares (now (words .entry)) (now (labels .entry)) (at .0) m (now (rest .entry)) (number .0) (forkSide (now (words .entry)) (now (labels .entry)) (at .0) m (now (rest .entry)))) × Loose (now (words .exit)) (nodesOf (now (words .entry)) + (1 + leafNodes (length (now (rest .entry))))) (at .0 + 1) (1 + leafNodes (length (now (rest .entry)))) 0 ⌝ }
 {
     if byte_below(labels, words, at, m, rest) {
         fork_before(labels, words, at, m, rest, number);
@@ -144,16 +157,14 @@ fn fork_label(labels: &mut [u8], words: &mut [u32], at: Slot, m: usize, rest: &[
     fork_behind(labels, words, at, m, rest, number);
 }
 
-// The key ends at the slot: its number is set, and the old one given back.
+// The key ends at the slot: its number is set, and the old one given back. No span changes.
 fn set_number(words: &mut [u32], at: Slot, number: RuleNo) -> Inserted
-    requires { ⌜ (6 * nodesOf (now words) + 8 ≤ length (now words)) × (nodesOf (now words) ≤ 16384) × (at .0 < nodesOf (now words)) × (lenOf (now words) (at .0) ≤ 255) ⌝ }
+    requires { ⌜ (6 * nodesOf (now words) + 8 ≤ length (now words)) × (at .0 < nodesOf (now words)) × (lenOf (now words) (at .0) ≤ 255) ⌝ }
     ensures { λ r. ⌜ ((bs : List ℕ) → PoolRule (now (words .entry)) bs → Placed (now (words .entry)) bs (now (words .exit)) bs (at .0) 1 (frontOf (lenOf (now (words .entry)) (at .0)) (some (number .0)) (bareAt (now (words .entry)) bs (at .0)) ∷ []) (done (numbersW (numAt (now (words .entry)) (at .0)) [])) (insertedTold r)) ⌝ }
 {
-    let n = pool::nodes_in(words);
     let len = pool::len_at(words, at);
     let old = pool::splice::stored_at(words, at);
     pool::splice::keep_front(words, at, len, Stored::Number(number));
-    pool::splice::settle(words, n);
     match old {
         Stored::Nothing => Inserted::New,
         Stored::Number(v) => Inserted::Replaced(v),
@@ -169,16 +180,17 @@ fn add_leaf(
     rest: &[u8],
     number: RuleNo,
 ) -> Inserted
-    requires { ⌜ PoolRule (now words) (now labels) × (at .0 ≤ nodesOf (now words)) × (1 ≤ length (now rest)) × (start + length (now rest) ≤ 4096) ⌝ }
+    requires { ⌜ Opens (now words) (now labels) (at .0) start (now rest) ⌝ }
     ensures { λ r. ⌜ Placed (now (words .entry)) (now (labels .entry)) (now (words .exit)) (now (labels .exit)) (at .0) 0 (leafBares start (now (rest .entry)) (number .0)) (done []) (insertedTold r) ⌝ }
 {
     let n = pool::nodes_in(words);
-    let all = n + chain_nodes(rest.len());
+    let k = chain_nodes(rest.len());
+    let all = n + k;
     if all > labels.len() / 255 {
         return Inserted::NoRoom;
     }
     open_leaf(labels, words, at, start, rest, number);
-    pool::splice::settle(words, all);
+    pool::splice::settle_at(words, all, at, k);
     Inserted::New
 }
 
@@ -189,11 +201,12 @@ fn add_cut(labels: &mut [u8], words: &mut [u32], at: Slot, m: usize, number: Rul
 {
     let n = pool::nodes_in(words);
     let all = n + 1;
+    let lower = at.0 + 1;
     if all > labels.len() / 255 {
         return Inserted::NoRoom;
     }
     cut_label(labels, words, at, m, number);
-    pool::splice::settle(words, all);
+    pool::splice::settle_at(words, all, Slot(lower), 1);
     Inserted::New
 }
 
@@ -210,12 +223,14 @@ fn add_fork(
     ensures { λ r. ⌜ Placed (now (words .entry)) (now (labels .entry)) (now (words .exit)) (now (labels .exit)) (at .0) (forkWas (now (words .entry)) (at .0) (forkSide (now (words .entry)) (now (labels .entry)) (at .0) m (now (rest .entry)))) (forkBares (now (words .entry)) (now (labels .entry)) (at .0) m (now (rest .entry)) (number .0) (forkSide (now (words .entry)) (now (labels .entry)) (at .0) m (now (rest .entry)))) (done []) (insertedTold r) ⌝ }
 {
     let n = pool::nodes_in(words);
-    let all = n + 1 + chain_nodes(rest.len());
+    let k = 1 + chain_nodes(rest.len());
+    let all = n + k;
+    let below = at.0 + 1;
     if all > labels.len() / 255 {
         return Inserted::NoRoom;
     }
     fork_label(labels, words, at, m, rest, number);
-    pool::splice::settle(words, all);
+    pool::splice::settle_at(words, all, Slot(below), k);
     Inserted::New
 }
 

@@ -87,7 +87,7 @@ reach-stops ws n s e base h (inl q) =
 reach-stops ws n s e base h (inr q) = reach-stop ws base e (n - e) (omega arith)
 
 -- what comes behind the children of a node
-stops-beside : (ws bs : List ℕ) (n s e : ℕ) (rest : Forest) → baresFrom ws bs e (nodesF rest) ≡ baresF s rest → Stops ws n s (e + nodesF rest) → Stops ws n s e
+pub stops-beside : (ws bs : List ℕ) (n s e : ℕ) (rest : Forest) → baresFrom ws bs e (nodesF rest) ≡ baresF s rest → Stops ws n s (e + nodesF rest) → Stops ws n s e
 stops-beside ws bs n s e nil q h =
     let z : nodesF nil ≡ 0 = unfold nodesF in refl in
     let g : e + nodesF nil ≡ e = omega arith in
@@ -96,7 +96,7 @@ stops-beside ws bs n s e (node b l w kids rest) q h =
     let p = node-bares ws bs s b l w kids rest e q in
     inr (omega (arith, start-is ws bs e (nodeBare s b l w) (p .slot)))
 
-stops-deeper : (ws : List ℕ) (n s d e : ℕ) → s ≤ d → Stops ws n s e → Stops ws n d e
+pub stops-deeper : (ws : List ℕ) (n s d e : ℕ) → s ≤ d → Stops ws n s e → Stops ws n d e
 stops-deeper ws n s d e h (inl q) = inl q
 stops-deeper ws n s d e h (inr q) = inr (omega arith)
 

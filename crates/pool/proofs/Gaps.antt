@@ -69,6 +69,9 @@ slot-lowered ws bs vs cs i to k h e rw′ rb s t =
           bare-eq vs cs ws bs x x
           (λ o m. s .high (6 * x + (8 + o)) (omega arith))
           (block-eq cs bs (255 * x) (255 * x) 255 (omega arith) r (λ j m. t .high (255 * x + j) (omega arith))));
+      spans = λ x ne.
+          by-lt x to (λ l. s .low (6 * x + 12) (omega arith))
+          (λ l. let g : to < x = by-lt to x (λ m. m) (λ m. absurd (ne (omega arith))) in s .high (6 * x + 12) (omega arith));
     }
 
 -- The sweep has come to slot i, and j slots are kept.
@@ -169,4 +172,4 @@ sweep-done {ws} {bs} {vs} {cs} {i} {j} {n} e s =
 
 -- a slot that stays where it is
 pub stays : (ws bs : List ℕ) (i j : ℕ) → j ≡ i → Filled ws bs ws bs j (bareAt ws bs i)
-stays ws bs i j e = record { lenW = refl; lenB = refl; head = λ x h. refl; slot = ap (bareAt ws bs) e; others = λ x ne r. refl }
+stays ws bs i j e = record { lenW = refl; lenB = refl; head = λ x h. refl; slot = ap (bareAt ws bs) e; others = λ x ne r. refl; spans = λ x ne. refl }

@@ -15,3 +15,4 @@ pub mod Cuts
 pub mod Gaps
 pub mod Puts
 pub mod Altered
+pub mod Spans

@@ -103,10 +103,10 @@ pub linking-done : {ws vs : List ℕ} {i n : ℕ} → i ≡ 0 → Linking ws vs 
 linking-done e k = record { len = k .len; spans = λ j a b. k .spans j (omega arith) b; rest = k .rest }
 
 -- starts and lengths are not spans, so a span that is written moves no reach
-start-kept : (vs : List ℕ) (i s j : ℕ) → startOf (set vs (6 * i + 12) s) j ≡ startOf vs j
+pub start-kept : (vs : List ℕ) (i s j : ℕ) → startOf (set vs (6 * i + 12) s) j ≡ startOf vs j
 start-kept vs i s j = getD-set-other vs (6 * i + 12) (6 * j + 8) s 0 (λ e. omega arith)
 
-len-kept : (vs : List ℕ) (i s j : ℕ) → lenOf (set vs (6 * i + 12) s) j ≡ lenOf vs j
+pub len-kept : (vs : List ℕ) (i s j : ℕ) → lenOf (set vs (6 * i + 12) s) j ≡ lenOf vs j
 len-kept vs i s j = getD-set-other vs (6 * i + 12) (6 * j + 9) s 0 (λ e. omega arith)
 
 reach-kept : (vs : List ℕ) (x s base i m : ℕ) → reach (set vs (6 * x + 12) s) base i m ≡ reach vs base i m

@@ -64,6 +64,9 @@ slots-moved ws bs vs cs from to k r s t =
           bare-eq vs cs ws bs i i
           (λ o m. s .high (6 * i + (8 + o)) (omega arith))
           (block-eq cs bs (255 * i) (255 * i) 255 (omega arith) l (λ j m. t .high (255 * i + j) (omega arith)));
+      low-span = λ i h. s .low (6 * i + 12) (omega arith);
+      moved-span = λ i h l. at-place vs (omega arith) ∙ s .mid (6 * i + 12) (omega arith) (omega arith);
+      high-span = λ i h. s .high (6 * i + 12) (omega arith);
     }
 
 -- A run of stores, place by place
@@ -100,6 +103,16 @@ head-eq ws i start len w has number eh en =
     let e₂ : suc (6 * i + 9) ≡ 6 * i + 10 = omega arith in
     let e₃ : suc (6 * i + 10) ≡ 6 * i + 11 = omega arith in
     simp (e₁, e₂, e₃, eh, en)
+
+-- A head has no span.
+pub head-span : (ws : List ℕ) (at start len : ℕ) (w : Num) (i : ℕ) → spanOf (headPut ws at start len w) i ≡ spanOf ws i
+unfolding headPut
+head-span ws at start len w i =
+    let new = start ∷ len ∷ keysW w ∷ numberWord w ∷ [] in
+    by-lt i at (λ m. sets-low ws (6 * at + 8) new (6 * i + 12) (omega arith)) (λ m. sets-high ws (6 * at + 8) new (6 * i + 12) (omega arith))
+
+pub head-kept : (ws vs : List ℕ) (at start len : ℕ) (w : Num) → vs ≡ headPut ws at start len w → spanOf vs at ≡ spanOf ws at
+head-kept ws vs at start len w e = ap (λ (z : List ℕ). spanOf z at) e ∙ head-span ws at start len w at
 
 -- A part of the labels filled is the label put.
 pub label-put-eq : (bs : List ℕ) (i : ℕ) (l ys : List ℕ) → ys ≡ l → putMid (255 * i) (255 * i + length l - 255 * i) bs ys ≡ labelPut bs i l
@@ -194,6 +207,7 @@ module _ (ws bs : List ℕ) (at start : ℕ) (l : List ℕ) (w : Num) (inW : 6 *
             (λ o h. by-lt i at (λ m. sets-low ws (6 * at + 8) new (6 * i + (8 + o)) (omega arith)) (λ m. sets-high ws (6 * at + 8) new (6 * i + (8 + o)) (other i o ne m)))
             (block-eq (labelPut bs at l) bs (255 * i) (255 * i) 255 (omega (arith, lb)) r
             (λ j h. by-lt i at (λ m. put-low bs at l (omega arith) (255 * i + j) (omega arith)) (λ m. put-high bs at l (omega arith) (255 * i + j) (past i j ne m))));
+        spans = λ i ne. head-span ws at start (length l) w i;
       }
     where
       other : (i o : ℕ) → (i ≡ at → ⊥) → at ≤ i → 6 * at + 8 + 4 ≤ 6 * i + (8 + o)
@@ -206,6 +220,25 @@ module _ (ws bs : List ℕ) (at start : ℕ) (l : List ℕ) (w : Num) (inW : 6 *
 pub filled-by : (ws bs vs cs : List ℕ) (at start : ℕ) (l : List ℕ) (w : Num) → 6 * at + 14 ≤ length ws → 255 * at + 255 ≤ length bs → length l ≤ 255
     → vs ≡ headPut ws at start (length l) w → cs ≡ labelPut bs at l → Filled ws bs vs cs at (bareOf start l w)
 filled-by ws bs vs cs at start l w inW inB short v c = rw (v, c) (filled ws bs at start l w inW inB short)
+
+-- with its span
+pub filled-linked : (ws bs us vs cs : List ℕ) (at s : ℕ) (x : Bare) → 6 * at + 14 ≤ length ws → Filled ws bs us cs at x → vs ≡ set us (6 * at + 12) s
+    → Filled ws bs vs cs at x × (spanOf vs at ≡ s)
+filled-linked ws bs us vs cs at s x r f e =
+    let same : (i : ℕ) → bareAt vs cs i ≡ bareAt us cs i =
+    λ i.
+    bare-eq vs cs us cs i i
+    (λ o l. ap (λ (z : List ℕ). getD z (6 * i + (8 + o)) 0) e ∙ getD-set-other us (6 * at + 12) (6 * i + (8 + o)) s 0 (λ q. omega arith)) refl in (
+      record {
+        lenW = ap length e ∙ length-set us (6 * at + 12) s ∙ f .lenW;
+        lenB = f .lenB;
+        head = λ j l. ap (λ (z : List ℕ). getD z j 0) e ∙ getD-set-other us (6 * at + 12) j s 0 (λ q. omega arith) ∙ f .head j l;
+        slot = same at ∙ f .slot;
+        others = λ i ne l. same i ∙ f .others i ne l;
+        spans = λ i ne. ap (λ (z : List ℕ). spanOf z i) e ∙ getD-set-other us (6 * at + 12) (6 * i + 12) s 0 (λ q. ne (omega arith)) ∙ f .spans i ne;
+      },
+      ap (λ (z : List ℕ). spanOf z at) e ∙ getD-set-same us (6 * at + 12) s 0 (omega (arith, f .lenW)),
+    )
 
 -- A splice settled: only word 0 and the spans have changed.
 pub settled : (ws us vs : List ℕ) (n : ℕ) → 1 ≤ length ws → us ≡ set ws 0 n → Relinked us vs n → Settled ws vs n

@@ -7,3 +7,4 @@ pub mod Fields
 pub mod Splice
 pub mod Put
 pub mod Altered
+pub mod Spans

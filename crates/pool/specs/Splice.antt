@@ -73,7 +73,7 @@ pub record Room (ws bs : List ℕ) (from to k : ℕ) : Type 0 where
   pub words : 6 * to + 6 * k + 8 ≤ length ws
   pub labels : 255 * to + 255 * k ≤ length bs
 
--- The slots from .. to stand k slots higher; what is not written over stays.
+-- The slots from .. to stand k slots higher, with their spans; what is not written over stays.
 pub record Moved (ws bs vs cs : List ℕ) (from to k : ℕ) : Type 0 where
   pub lenW : length vs ≡ length ws
   pub lenB : length cs ≡ length bs
@@ -81,6 +81,9 @@ pub record Moved (ws bs vs cs : List ℕ) (from to k : ℕ) : Type 0 where
   pub low : (i : ℕ) → i < from + k → bareAt vs cs i ≡ bareAt ws bs i
   pub moved : (i : ℕ) → from ≤ i → i < to → bareAt vs cs (i + k) ≡ bareAt ws bs i
   pub high : (i : ℕ) → to + k ≤ i → 255 * i + 255 ≤ length bs → bareAt vs cs i ≡ bareAt ws bs i
+  pub low-span : (i : ℕ) → i < from + k → spanOf vs i ≡ spanOf ws i
+  pub moved-span : (i : ℕ) → from ≤ i → i < to → spanOf vs (i + k) ≡ spanOf ws i
+  pub high-span : (i : ℕ) → to + k ≤ i → spanOf vs i ≡ spanOf ws i
 
 abbrev pub storedOf : Stored → Num
 storedOf Stored.Nothing = none
@@ -110,13 +113,14 @@ frontOf m w x = bareOf (x .start) (take m (x .label)) w
 abbrev pub backOf : (m : ℕ) → Bare → Bare
 backOf m x = bareOf (x .start + m) (drop m (x .label)) (x .num)
 
--- Slot `at` says x, and every other slot what it said.
+-- Slot `at` says x, and every other slot what it said, with its span.
 pub record Filled (ws bs vs cs : List ℕ) (at : ℕ) (x : Bare) : Type 0 where
   pub lenW : length vs ≡ length ws
   pub lenB : length cs ≡ length bs
   pub head : (j : ℕ) → j < 8 → getD vs j 0 ≡ getD ws j 0
   pub slot : bareAt vs cs at ≡ x
   pub others : (i : ℕ) → (i ≡ at → ⊥) → 255 * i + 255 ≤ length bs → bareAt vs cs i ≡ bareAt ws bs i
+  pub spans : (i : ℕ) → (i ≡ at → ⊥) → spanOf vs i ≡ spanOf ws i
 
 -- The records with a label
 abbrev pub keepIf : (len : ℕ) → Bare → List Bare → List Bare

@@ -4,8 +4,9 @@ ghost use mathlib.Core.Path.{_≡_};
 ghost use mathlib.Core.List.{List};
 ghost use Prim.Native.Nat.{ℕ, _+_, _*_, _-_, _≤_, _<_};
 ghost use lib.ListN.{length, set};
-ghost use Rattle.pool.specs.Layout.{startOf, lenOf, numAt};
+ghost use Rattle.pool.specs.Layout.{nodesOf, startOf, lenOf, spanOf, numAt};
 ghost use Rattle.pool.specs.Splice.{reach, Linked, Relinked, Settled, Room, Moved, storedOf, headPut, labelPut, bareOf, bareAt, frontOf, backOf, Filled, Swept, Closed};
+ghost use Rattle.pool.specs.Spans.{Loose, Raised};
 use tree::RuleNo;
 use tree::Slot;
 
@@ -56,6 +57,47 @@ pub fn settle(words: &mut [u32], n: usize)
 {
     words[0] = n as u32;
     relink(words, n);
+}
+
+// Slot c on the way down to slot `at`, where k slots are new: if they belong to c, its span grows, and the next slot is its
+// first child; else the next slot is the one past its span.
+fn raise_slot(words: &mut [u32], c: Slot, at: Slot, k: usize) -> usize
+    requires { ⌜ (6 * nodesOf (now words) + 8 ≤ length (now words)) × (nodesOf (now words) ≤ 16384) × (c .0 < at .0) × Loose (now words) (nodesOf (now words)) (at .0) k (c .0) ⌝ }
+    ensures { λ r. ⌜ Raised (now (words .entry)) (now (words .exit)) (nodesOf (now (words .entry))) (at .0) k (c .0) r ⌝ }
+{
+    let i = c.0;
+    let span = crate::span_at(words, c);
+    let end = i + span;
+    if end < at.0 {
+        return end;
+    }
+    let base = crate::start_at(words, c) + crate::len_at(words, c);
+    if crate::start_at(words, at) < base {
+        return end;
+    }
+    set_span(words, c, span + k);
+    i + 1
+}
+
+// Lets the spans of the ancestors of slot `at` grow by the k slots that are new there. Goes from the root down and jumps over
+// the subtrees that end before it.
+fn raise(words: &mut [u32], at: Slot, k: usize)
+    requires { ⌜ (6 * nodesOf (now words) + 8 ≤ length (now words)) × (nodesOf (now words) ≤ 16384) × Loose (now words) (nodesOf (now words)) (at .0) k 0 ⌝ }
+    ensures { λ _. ⌜ Relinked (now (words .entry)) (now (words .exit)) (nodesOf (now (words .entry))) ⌝ }
+{
+    let mut c: usize = 0;
+    while c < at.0 {
+        c = raise_slot(words, Slot(c), at, k);
+    }
+}
+
+// Ends a splice that leaves n slots in use, k of them new, where only the spans of the ancestors of slot `at` are short.
+pub fn settle_at(words: &mut [u32], n: usize, at: Slot, k: usize)
+    requires { ⌜ (6 * n + 8 ≤ length (now words)) × (n ≤ 16384) × Loose (now words) n (at .0) k 0 ⌝ }
+    ensures { λ _. ⌜ Settled (now (words .entry)) (now (words .exit)) n ⌝ }
+{
+    words[0] = n as u32;
+    raise(words, at, k);
 }
 
 // A number that may be missing.
@@ -121,6 +163,23 @@ pub fn put_node(
     put_label(labels, at, bytes);
 }
 
+// Fills a slot whole, with its span.
+pub fn put_linked(
+    labels: &mut [u8],
+    words: &mut [u32],
+    at: Slot,
+    start: usize,
+    bytes: &[u8],
+    stored: Stored,
+    span: usize,
+)
+    requires { ⌜ (6 * at .0 + 14 ≤ length (now words)) × (255 * at .0 + 255 ≤ length (now labels)) × (start ≤ 4096) × (length (now bytes) ≤ 255) × (span < 4294967296) ⌝ }
+    ensures { λ _. ⌜ Filled (now (words .entry)) (now (labels .entry)) (now (words .exit)) (now (labels .exit)) (at .0) (bareOf start (now (bytes .entry)) (storedOf stored)) × (spanOf (now (words .exit)) (at .0) ≡ span) ⌝ }
+{
+    put_node(labels, words, at, start, bytes, stored);
+    set_span(words, at, span);
+}
+
 // The number at a slot, if it has one.
 pub fn stored_at(words: &[u32], at: Slot) -> Stored
     requires { ⌜ 6 * at .0 + 14 ≤ length (now words) ⌝ }
@@ -132,19 +191,19 @@ pub fn stored_at(words: &[u32], at: Slot) -> Stored
     Stored::Number(crate::number_at(words, at))
 }
 
-// Keeps the first m bytes of a slot's label, with this number or none. The bytes stay where they are.
+// Keeps the first m bytes of a slot's label, with this number or none. The bytes stay where they are, and so does the span.
 pub fn keep_front(words: &mut [u32], at: Slot, m: usize, stored: Stored)
     requires { ⌜ (6 * at .0 + 14 ≤ length (now words)) × (m ≤ lenOf (now words) (at .0)) × (lenOf (now words) (at .0) ≤ 255) ⌝ }
-    ensures { λ _. ⌜ ((bs : List ℕ) → 255 * at .0 + 255 ≤ length bs → Filled (now (words .entry)) bs (now (words .exit)) bs (at .0) (frontOf m (storedOf stored) (bareAt (now (words .entry)) bs (at .0)))) ⌝ }
+    ensures { λ _. ⌜ ((bs : List ℕ) → 255 * at .0 + 255 ≤ length bs → Filled (now (words .entry)) bs (now (words .exit)) bs (at .0) (frontOf m (storedOf stored) (bareAt (now (words .entry)) bs (at .0)))) × (spanOf (now (words .exit)) (at .0) ≡ spanOf (now (words .entry)) (at .0)) ⌝ }
 {
     let start = crate::start_at(words, at);
     put_head(words, at, start, m, stored);
 }
 
-// Keeps what is behind the first m bytes of a slot's label, with the slot's number, under m more bytes of the path.
+// Keeps what is behind the first m bytes of a slot's label, with the slot's number and span, under m more bytes of the path.
 pub fn keep_back(labels: &mut [u8], words: &mut [u32], at: Slot, m: usize)
     requires { ⌜ (6 * at .0 + 14 ≤ length (now words)) × (255 * at .0 + 255 ≤ length (now labels)) × (m ≤ lenOf (now words) (at .0)) × (lenOf (now words) (at .0) ≤ 255) × (startOf (now words) (at .0) ≤ 4096) ⌝ }
-    ensures { λ _. ⌜ Filled (now (words .entry)) (now (labels .entry)) (now (words .exit)) (now (labels .exit)) (at .0) (backOf m (bareAt (now (words .entry)) (now (labels .entry)) (at .0))) ⌝ }
+    ensures { λ _. ⌜ Filled (now (words .entry)) (now (labels .entry)) (now (words .exit)) (now (labels .exit)) (at .0) (backOf m (bareAt (now (words .entry)) (now (labels .entry)) (at .0))) × (spanOf (now (words .exit)) (at .0) ≡ spanOf (now (words .entry)) (at .0)) ⌝ }
 {
     let from = 255 * at.0;
     let start = crate::start_at(words, at);

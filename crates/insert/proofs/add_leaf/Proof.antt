@@ -1,9 +1,11 @@
 -- `insert::add_leaf` meets its contract. Assumes nothing.
+use mathlib.Core.Path.{sym}
 use native.Mathlib.Omega.{arith}
 use Rattle.tree.specs.Told.{done}
 use mathlib.Core.List.{[]}
 use Rattle.insert.specs.Splices.{leafBares}
 use Rattle.insert.proofs.Leaves.{leaf-length}
+use Rattle.insert.proofs.Spans.{loose-at}
 use Rattle.insert.proofs.Room.{placed-full, placed-grown}
 use borrow.Author.Needs.{needs}
 use Rattle.insert.proofs.add_leaf.Statement.{statement}
@@ -29,8 +31,11 @@ returns c =
 open-leaf-requires : tie.Need-open-leaf-requires
 open-leaf-requires c κs = search needs
 
-settle-requires : tie.Need-settle-requires
-settle-requires c κs = search needs
+settle-at-requires : tie.Need-settle-at-requires
+settle-at-requires c κs =
+    let r = c .before .before .before .before .before .before .before .before .before .before .before .before .before .before .before .pre .rule in
+    let l = c .before .before .before .before .before .open-leaf .ensures in
+    (omega (arith, l .0 .lenW), omega arith, loose-at (omega arith) (sym (c .before .before .before .before .before .before .before .before .before .chain-nodes .ensures)) (l .1))
 
 same-length-2 : tie.Need-same-length-2
 same-length-2 c = search needs
@@ -41,7 +46,7 @@ same-length-3 c = search needs
 returns-2 : tie.Need-returns-2
 returns-2 c =
     let a = c .before .before .before .before .before .before .before .before .before .before .before .before .before .before .before .before .before .before .args in
-    placed-grown _ _ _ _ (leafBares (a .start) (a .rest .now) (a .number .0)) (done []) _ (omega (arith, leaf-length (a .start) (a .rest .now) (a .number .0) (omega arith))) _ _ _ (c .before .before .before .before .before .before .before .before .before .before .before .if1 .left) (c .before .before .before .before .before .before .before .before .open-leaf .ensures) (c .before .before .settle .ensures)
+    placed-grown _ _ _ _ (leafBares (a .start) (a .rest .now) (a .number .0)) (done []) _ (omega (arith, leaf-length (a .start) (a .rest .now) (a .number .0) (omega arith))) _ _ _ (c .before .before .before .before .before .before .before .before .before .before .before .if1 .left) (c .before .before .before .before .before .before .before .before .open-leaf .ensures .0) (c .before .before .settle-at .ensures)
 
 pub add-leaf-spec : {M : Type 1} → statement M
 add-leaf-spec =
@@ -53,7 +58,7 @@ add-leaf-spec =
     same-length
     returns
     open-leaf-requires
-    settle-requires
+    settle-at-requires
     same-length-2
     same-length-3
     returns-2)

@@ -4,6 +4,7 @@ use mathlib.Core.List.{[]}
 use Prim.Native.Nat.{_+_}
 use native.Mathlib.Omega.{arith}
 use Rattle.insert.proofs.Places.{cut-same, upper-there, lower-next, built-none, cut-parts}
+use Rattle.insert.proofs.Spans.{leafy-none}
 use borrow.Author.Needs.{needs}
 use Rattle.insert.proofs.cut_label.Statement.{statement}
 use Rattle.insert.proofs.cut_label.Tie as tie
@@ -26,7 +27,7 @@ keep-front-requires c κs =
 keep-back-requires : tie.Need-keep-back-requires
 keep-back-requires c κs =
     let s = c .before .before .before .before .before .before .before .before .before .before .before .before .before .before .before .before .before .before in
-    let u = cut-same _ _ _ _ _ _ _ (s .pre .1) (lower-next _ _ _ _ _ _ 0 _ (s .args .at .0 + 1) (omega arith) (c .before .before .before .before .before .before .before .before .before .before .before .before .before .before .nodes-in .ensures .0) (s .pre .1) (record { words = omega arith; labels = omega arith }) (c .before .before .before .before .before .before .before .before .before .before .move-slots .ensures) _ _ _ (c .before .before .before .before .keep-front .ensures _ (omega arith))) in
+    let u = cut-same _ _ _ _ _ _ _ (s .pre .1) (lower-next _ _ _ _ _ _ 0 _ (s .args .at .0 + 1) (omega arith) (c .before .before .before .before .before .before .before .before .before .before .before .before .before .before .nodes-in .ensures .0) (s .pre .1) (record { words = omega arith; labels = omega arith }) (c .before .before .before .before .before .before .before .before .before .before .move-slots .ensures) _ _ _ (c .before .before .before .before .keep-front .ensures .0 _ (omega arith))) in
     omega arith
 
 same-length : tie.Need-same-length
@@ -38,8 +39,9 @@ same-length-2 c = search needs
 returns : tie.Need-returns
 returns c =
     let s = c .before .before .before .before .before .before .before .before .before .before .before .before .before .before .before .before .before .before .before .before .before .before .before in
-    cut-parts _ _ _ _ _ _ _ _ _ _ _ _ 0 _ _ _ [] (omega arith) (c .before .before .before .before .before .before .before .before .before .before .before .before .before .before .before .before .before .before .before .nodes-in .ensures .0) (s .pre .1) (record { words = omega arith; labels = omega arith })
-    (c .before .before .before .before .before .before .before .before .before .before .before .before .before .before .before .move-slots .ensures) (c .before .before .before .before .before .before .before .before .before .keep-front .ensures _ (omega arith)) refl (built-none _ _ _) (c .before .before .before .before .keep-back .ensures)
+    let f = c .before .before .before .before .before .before .before .before .before .keep-front .ensures in
+    cut-parts _ _ _ _ _ _ _ _ _ _ _ _ 0 _ _ _ [] (omega arith) (c .before .before .before .before .before .before .before .before .before .before .before .before .before .before .before .before .before .before .before .nodes-in .ensures .0) (s .pre .1) (record { words = omega arith; labels = omega arith }) (s .pre .2)
+    (c .before .before .before .before .before .before .before .before .before .before .before .before .before .before .before .move-slots .ensures) (f .0 _ (omega arith), f .1) refl (built-none _ _ _) (leafy-none _ _ _) (c .before .before .before .before .keep-back .ensures)
 
 pub cut-label-spec : {M : Type 1} → statement M
 cut-label-spec =

@@ -38,7 +38,7 @@ keep-front-requires c κs =
     let p = s .pre in
     let n = c .before .before .before .before .before .before .before .before .before .before .before .before .nodes-in .ensures in
     let k = c .before .before .before .before .before .before .before .before .before .before .before .chain-nodes .ensures in
-    let u = cut-same _ _ _ _ _ _ _ (p .1) (upper-there _ _ _ _ _ _ _ _ _ refl (n .0) (p .1) (record { words = omega arith; labels = omega arith }) (c .before .before .before .before .before .move-slots .ensures)) in
+    let u = cut-same _ _ _ _ _ _ _ (p .1 .cuts) (upper-there _ _ _ _ _ _ _ _ _ refl (n .0) (p .1 .cuts) (record { words = omega arith; labels = omega arith }) (c .before .before .before .before .before .move-slots .ensures)) in
     omega arith
 
 chain-requires : tie.Need-chain-requires
@@ -52,7 +52,7 @@ keep-back-requires c κs =
     let k = c .before .before .before .before .before .before .before .before .before .before .before .before .before .before .before .before .before .before .before .before .before .before .before .chain-nodes .ensures in
     let m = c .before .before .before .before .before .before .before .before .before .before .before .before .before .before .before .before .before .move-slots .ensures in
     let b = c .before .before .before .before .before .before .chain .ensures in
-    let u = cut-same _ _ _ _ _ _ _ (p .1) (lower-then _ _ _ _ _ _ _ _ _ refl (n .0) (p .1) (record { words = omega arith; labels = omega arith }) m _ _ _ (c .before .before .before .before .before .before .before .before .before .before .before .keep-front .ensures _ (omega (arith, m .lenB))) _ _ _ (leaf-length _ (s .args .rest .now) (s .args .number .0) (omega arith) ∙ sym k) b) in
+    let u = cut-same _ _ _ _ _ _ _ (p .1 .cuts) (lower-then _ _ _ _ _ _ _ _ _ refl (n .0) (p .1 .cuts) (record { words = omega arith; labels = omega arith }) m _ _ _ (c .before .before .before .before .before .before .before .before .before .before .before .keep-front .ensures .0 _ (omega (arith, m .lenB))) _ _ _ (leaf-length _ (s .args .rest .now) (s .args .number .0) (omega arith) ∙ sym k) b) in
     omega arith
 
 same-length : tie.Need-same-length
@@ -68,8 +68,8 @@ returns c =
     let n = c .before .before .before .before .before .before .before .before .before .before .before .before .before .before .before .before .before .before .before .before .before .before .before .before .before .before .before .before .before .nodes-in .ensures in
     let k = c .before .before .before .before .before .before .before .before .before .before .before .before .before .before .before .before .before .before .before .before .before .before .before .before .before .before .before .before .chain-nodes .ensures in
     let m = c .before .before .before .before .before .before .before .before .before .before .before .before .before .before .before .before .before .before .before .before .before .before .move-slots .ensures in
-    forked-before _ _ _ _ _ _ _ _ _ (s .args .rest .now) (s .args .number .0) (c .before .before .before .before .before .before .before .before .before .before .before .before .before .before .before .before .before .before .before .before .before .before .before .before .before .before .start-at .ensures .0) (n .0) (p .1) (record { words = omega arith; labels = omega arith }) (omega arith) k
-    _ _ _ _ _ _ m (c .before .before .before .before .before .before .before .before .before .before .before .before .before .before .before .before .keep-front .ensures _ (omega (arith, m .lenB))) (c .before .before .before .before .before .before .before .before .before .before .before .chain .ensures) (c .before .before .before .before .keep-back .ensures)
+    forked-before _ _ _ _ _ _ _ _ _ (s .args .rest .now) (s .args .number .0) (c .before .before .before .before .before .before .before .before .before .before .before .before .before .before .before .before .before .before .before .before .before .before .before .before .before .before .start-at .ensures .0) (n .0) (p .1) (record { words = omega arith; labels = omega arith }) (p .2) k
+    _ _ _ _ _ _ m (c .before .before .before .before .before .before .before .before .before .before .before .before .before .before .before .before .keep-front .ensures .0 _ (omega (arith, m .lenB)), c .before .before .before .before .before .before .before .before .before .before .before .before .before .before .before .before .keep-front .ensures .1) (c .before .before .before .before .before .before .before .before .before .before .before .chain .ensures) (c .before .before .before .before .keep-back .ensures)
 
 pub fork-before-spec : {M : Type 1} → statement M
 fork-before-spec =

@@ -44,7 +44,7 @@ keep-front-requires c κs =
     let n = c .before .before .before .before .before .before .before .before .before .before .before .before .before .before .before .before .before .before .before .before .before .before .nodes-in .ensures in
     let k = c .before .before .before .before .before .before .before .before .before .before .before .before .before .before .before .before .before .before .before .before .before .chain-nodes .ensures in
     let t = c .before .before .before .before .before .before .before .before .before .before .before .before .before .before .before .before .span-at .ensures in
-    let u = cut-same _ _ _ _ _ _ _ (p .1) (high-upper _ _ _ _ _ _ _ _ _ _ _ (n .0) (p .1) (record { words = omega arith; labels = omega arith }) (omega arith) (omega arith) (c .before .before .before .before .before .before .before .before .before .before .before .before .move-slots .ensures) (c .before .before .before .before .before .move-slots2 .ensures)) in
+    let u = cut-same _ _ _ _ _ _ _ (p .1 .cuts) (high-upper _ _ _ _ _ _ _ _ _ _ _ (n .0) (p .1 .cuts) (record { words = omega arith; labels = omega arith }) (omega arith) (omega arith) (c .before .before .before .before .before .before .before .before .before .before .before .before .move-slots .ensures) (c .before .before .before .before .before .move-slots2 .ensures)) in
     omega arith
 
 keep-back-requires : tie.Need-keep-back-requires
@@ -56,7 +56,7 @@ keep-back-requires c κs =
     let t = c .before .before .before .before .before .before .before .before .before .before .before .before .before .before .before .before .before .before .before .before .before .span-at .ensures in
     let m = c .before .before .before .before .before .before .before .before .before .before .before .before .before .before .before .before .before .move-slots .ensures in
     let m₂ = c .before .before .before .before .before .before .before .before .before .before .move-slots2 .ensures in
-    let u = cut-same _ _ _ _ _ _ _ (p .1) (high-lower _ _ _ _ _ _ _ _ _ _ _ (n .0) (p .1) (record { words = omega arith; labels = omega arith }) (omega arith) (omega arith) m m₂ _ _ _ (c .before .before .before .before .keep-front .ensures _ (omega (arith, m .lenB, m₂ .lenB)))) in
+    let u = cut-same _ _ _ _ _ _ _ (p .1 .cuts) (high-lower _ _ _ _ _ _ _ _ _ _ _ (n .0) (p .1 .cuts) (record { words = omega arith; labels = omega arith }) (omega arith) (omega arith) m m₂ _ _ _ (c .before .before .before .before .keep-front .ensures .0 _ (omega (arith, m .lenB, m₂ .lenB)))) in
     omega arith
 
 add-t14 : tie.Need-add-t14
@@ -97,8 +97,8 @@ returns c =
     let t = c .before .before .before .before .before .before .before .before .before .before .before .before .before .before .before .before .before .before .before .before .before .before .before .before .before .before .before .before .before .before .before .before .before .span-at .ensures in
     let m = c .before .before .before .before .before .before .before .before .before .before .before .before .before .before .before .before .before .before .before .before .before .before .before .before .before .before .before .before .before .move-slots .ensures in
     let m₂ = c .before .before .before .before .before .before .before .before .before .before .before .before .before .before .before .before .before .before .before .before .before .before .move-slots2 .ensures in
-    forked-behind _ _ _ _ _ _ _ _ _ (s .args .rest .now) (s .args .number .0) (c .before .before .before .before .before .before .before .before .before .before .before .before .before .before .before .before .before .before .before .before .before .before .before .before .before .before .before .before .before .before .before .before .before .before .before .before .start-at .ensures .0) (n .0) (p .1) (record { words = omega arith; labels = omega arith }) (omega arith) k
-    _ _ _ _ _ _ _ _ _ (t .0) (omega arith) (omega arith) m m₂ (c .before .before .before .before .before .before .before .before .before .before .before .before .before .before .before .before .keep-front .ensures _ (omega (arith, m .lenB, m₂ .lenB)))
+    forked-behind _ _ _ _ _ _ _ _ _ (s .args .rest .now) (s .args .number .0) (c .before .before .before .before .before .before .before .before .before .before .before .before .before .before .before .before .before .before .before .before .before .before .before .before .before .before .before .before .before .before .before .before .before .before .before .before .start-at .ensures .0) (n .0) (p .1) (record { words = omega arith; labels = omega arith }) (p .2) k
+    _ _ _ _ _ _ _ _ _ (t .0) (omega arith) (omega arith) m m₂ (c .before .before .before .before .before .before .before .before .before .before .before .before .before .before .before .before .keep-front .ensures .0 _ (omega (arith, m .lenB, m₂ .lenB)), c .before .before .before .before .before .before .before .before .before .before .before .before .before .before .before .before .keep-front .ensures .1)
     (c .before .before .before .before .before .before .before .before .before .before .before .keep-back .ensures) (c .before .before .before .before .chain .ensures)
 
 pub fork-behind-spec : {M : Type 1} → statement M

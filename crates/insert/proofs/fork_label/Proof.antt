@@ -18,7 +18,7 @@ same-length-2 : tie.Need-same-length-2
 same-length-2 c = search needs
 
 returns : tie.Need-returns
-returns c = let a = c .before .before .before .before .before .before .before .before .before .before .before .before .before .before .args in fork-on _ _ _ _ _ _ (a .rest .now) (a .number .0) true _ (c .before .before .before .before .before .before .before .before .byte-below .ensures) (c .before .before .before .before .before .before .before .if1 .taken) (c .before .before .before .before .fork-before .ensures)
+returns c = let a = c .before .before .before .before .before .before .before .before .before .before .before .before .before .before .args in (fork-on _ _ _ _ _ _ (a .rest .now) (a .number .0) true _ (c .before .before .before .before .before .before .before .before .byte-below .ensures) (c .before .before .before .before .before .before .before .if1 .taken) (c .before .before .before .before .fork-before .ensures .0), c .before .before .before .before .fork-before .ensures .1)
 
 fork-behind-requires : tie.Need-fork-behind-requires
 fork-behind-requires c κs = search needs
@@ -30,7 +30,7 @@ same-length-4 : tie.Need-same-length-4
 same-length-4 c = search needs
 
 returns-2 : tie.Need-returns-2
-returns-2 c = let a = c .before .before .before .before .before .before .before .before .before .before .before .before .before .before .args in fork-on _ _ _ _ _ _ (a .rest .now) (a .number .0) false _ (c .before .before .before .before .before .before .before .before .byte-below .ensures) (c .before .before .before .before .before .before .before .if1 .left) (c .before .before .before .before .fork-behind .ensures)
+returns-2 c = let a = c .before .before .before .before .before .before .before .before .before .before .before .before .before .before .args in (fork-on _ _ _ _ _ _ (a .rest .now) (a .number .0) false _ (c .before .before .before .before .before .before .before .before .byte-below .ensures) (c .before .before .before .before .before .before .before .if1 .left) (c .before .before .before .before .fork-behind .ensures .0), c .before .before .before .before .fork-behind .ensures .1)
 
 pub fork-label-spec : {M : Type 1} → statement M
 fork-label-spec =

@@ -1,5 +1,6 @@
 -- `pool::splice::keep_back` meets its contract. Assumes nothing.
 use native.Mathlib.Omega.{arith}
+use Rattle.pool.proofs.Slots.{head-kept}
 use Rattle.pool.proofs.Cuts.{back-kept}
 use borrow.Author.Needs.{needs}
 use Rattle.pool.proofs.splice.keep_back.Statement.{statement}
@@ -42,7 +43,10 @@ same-length-2 : tie.Need-same-length-2
 same-length-2 c = search needs
 
 returns : tie.Need-returns
-returns c = back-kept _ _ _ (omega arith) (omega arith) _ (omega arith) (omega arith) _ _ _ _ _ (c .before .before .before .before .before .before .before .before .before .before .before .before .start-at .ensures .0) (c .before .before .before .before .before .before .before .before .before .before .len-at .ensures .0) (c .before .before .before .before .before .before .before .before .stored-at .ensures) (c .before .before .before .before .before .before .put-head .ensures) (c .before .before .move-bytes-down .ensures)
+returns c = (
+  back-kept _ _ _ (omega arith) (omega arith) _ (omega arith) (omega arith) _ _ _ _ _ (c .before .before .before .before .before .before .before .before .before .before .before .before .start-at .ensures .0) (c .before .before .before .before .before .before .before .before .before .before .len-at .ensures .0) (c .before .before .before .before .before .before .before .before .stored-at .ensures) (c .before .before .before .before .before .before .put-head .ensures) (c .before .before .move-bytes-down .ensures),
+  head-kept _ _ _ _ _ _ (c .before .before .before .before .before .before .put-head .ensures),
+)
 
 pub keep-back-spec : {M : Type 1} → statement M
 keep-back-spec =

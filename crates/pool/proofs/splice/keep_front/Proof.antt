@@ -1,5 +1,6 @@
 -- `pool::splice::keep_front` meets its contract. Assumes nothing.
 use native.Mathlib.Omega.{arith}
+use Rattle.pool.proofs.Slots.{head-kept}
 use Rattle.pool.proofs.Cuts.{front-kept}
 use borrow.Author.Needs.{needs}
 use Rattle.pool.proofs.splice.keep_front.Statement.{statement}
@@ -15,7 +16,11 @@ same-length : tie.Need-same-length
 same-length c = search needs
 
 returns : tie.Need-returns
-returns c = λ bs h. front-kept _ bs _ (omega arith) h _ (omega arith) (omega arith) _ _ _ (c .before .before .before .before .start-at .ensures .0) (c .before .before .put-head .ensures)
+returns c =
+    let e = c .before .before .put-head .ensures in (
+      λ bs h. front-kept _ bs _ (omega arith) h _ (omega arith) (omega arith) _ _ _ (c .before .before .before .before .start-at .ensures .0) e,
+      head-kept _ _ _ _ _ _ e,
+    )
 
 pub keep-front-spec : {M : Type 1} → statement M
 keep-front-spec = tie.close (tie.spec start-at-requires put-head-requires same-length returns)
