@@ -5,7 +5,7 @@ use mathlib.Core.Bool.{Bool, true, false}
 use mathlib.Core.List.{List, [], _∷_, _++_, append-assoc}
 use mathlib.Core.Option.{none, some}
 use mathlib.Core.Logic.{inl, inr}
-use Prim.Native.Nat.{ℕ, zero, suc, _+_, _*_, _-_, _≤_, _<_}
+use Prim.Native.Nat.{ℕ, zero, suc, _+_, _*_, _-_, _/_, _≤_, _<_}
 use native.Mathlib.Omega.{arith}
 use lib.Dec.{ltb}
 use lib.ListN.{length, getD, take, drop, length-drop, length-append}
@@ -16,7 +16,7 @@ use Rattle.tree.specs.Map.{Num}
 use Rattle.tree.specs.Tree.{Forest, nil, node, Tree, Above, Wf, room, nodesF, nodesT}
 use Rattle.tree.specs.Image.{numbersW}
 use Rattle.tree.specs.Insert.{leaf, insertF, insertT}
-use Rattle.tree.specs.Told.{Told, done}
+use Rattle.tree.specs.Told.{Told, done, refusal}
 use Rattle.tree.specs.Calls.{insertCall}
 use Rattle.tree.specs.Context.{Context, top, down, over, plug, depth, before, Leads}
 use Rattle.tree.proofs.Order.{less, even, more, cmp}
@@ -35,8 +35,10 @@ use Rattle.search.specs.declared.Descent.{Descent}
 use Rattle.search.specs.Landing.{Ends, Place, PlaceOf}
 use Rattle.search.proofs.Places.{plug-stands, plug-wf, plug-nodes, nodes-node, leads-drop, leads-length}
 use Rattle.search.proofs.Answers.{Known, tree, tree-is, holds, place, gotAt, get-place, place-within}
-use Rattle.insert.specs.Splices.{leafBares, Opens, Cuts, Forks, forkBares, forkSide, forkWas, Placed}
+use Rattle.insert.specs.Splices.{leafBares, Opens, Cuts, Forks, forkBares, forkSide, forkWas, total, Placed, full, leafNodes, KeyLeft, newNodes}
 use Rattle.insert.proofs.Steps.{Step, front-whole, front-cut, back-cut, gap-step, same-step, inside-step, before-step, behind-step}
+use Rattle.insert.proofs.Leaves.{leaf-length}
+use Rattle.insert.proofs.Room.{fork-count}
 use Rattle.insert.proofs.Grown.{Splits, placed-meets}
 
 -- Behind the forest in its place comes nothing, or a slot that starts no deeper.
@@ -362,6 +364,45 @@ module _ {ws bs key : List ℕ} {d : Descent} (w : Known ws bs key d) where
   unfolding keyMax
   fork-asks m e = fork-ready (holds w) key m (d .at .0) (d .end .0) (d .parent .0) (d .above) (w .short) (place w (Stop.Fork m) e)
 
+  -- what is left of the key, and the slots that it takes
+  pub left-asks : (s : Stop) → d .stop ≡ s → KeyLeft s (d .above) (length key)
+  left-asks Stop.Root e = tt
+  left-asks Stop.Gap e = gap-within e
+  left-asks Stop.Same e = tt
+  left-asks (Stop.Inside m) e = tt
+  left-asks (Stop.Fork m) e = fork-asks m e .0
+
+  total-at : (v : ℕ) (s : Stop) → d .stop ≡ s
+      → total ws (wasAt ws bs key (d .at .0) (d .above) s) (nowAt ws bs key v (d .at .0) (d .above) s) ≡ nodesOf ws + newNodes s (d .above) (length key)
+  total-at v Stop.Root e = omega arith
+  total-at v Stop.Gap e =
+      let q = left key (d .above) in
+      let l = left-length key (d .above) in
+      omega (arith, gap-within e, leaf-length (d .above) q v (omega (arith, gap-within e)))
+  total-at v Stop.Same e = omega arith
+  total-at v (Stop.Inside m) e = omega arith
+  total-at v (Stop.Fork m) e =
+      let q = left key (d .above + m) in
+      let l = left-length key (d .above + m) in
+      let f = fork-asks m e .1 in
+      omega (arith, fork-count ws bs (d .at .0) m q v (forkSide ws bs (d .at .0) m q) (f .left) (f .span))
+
+  -- there is room, as the code has counted it
+  module _ (n k : ℕ) (nodes : n ≡ nodesOf ws) (count : k ≡ newNodes (d .stop) (d .above) (length key)) where
+    room-at : n + k ≤ length bs / 255 → (s : Stop) → d .stop ≡ s → nodesOf ws + newNodes s (d .above) (length key) ≤ slotsIn bs
+    room-at h s e =
+        let z : newNodes (d .stop) (d .above) (length key) ≡ newNodes s (d .above) (length key) = ap (λ (x : Stop). newNodes x (d .above) (length key)) e in
+        omega arith
+
+    pub gap-room : n + k ≤ length bs / 255 → d .stop ≡ Stop.Gap → nodesOf ws + leafNodes (length (left key (d .above))) ≤ slotsIn bs
+    gap-room h e = rw (left-length key (d .above)) (room-at h Stop.Gap e)
+
+    pub inside-room : n + k ≤ length bs / 255 → (m : ℕ) → d .stop ≡ Stop.Inside m → nodesOf ws + 1 ≤ slotsIn bs
+    inside-room h m e = room-at h (Stop.Inside m) e
+
+    pub fork-room : n + k ≤ length bs / 255 → (m : ℕ) → d .stop ≡ Stop.Fork m → nodesOf ws + (1 + leafNodes (length (left key (d .above + m)))) ≤ slotsIn bs
+    fork-room h m e = rw (left-length key (d .above + m)) (room-at h (Stop.Fork m) e)
+
   pub meets : Bytes key → (v : ℕ) (s : Stop) → d .stop ≡ s → (vs cs : List ℕ) (told : Told)
       → Placed ws bs vs cs (d .at .0) (wasAt ws bs key (d .at .0) (d .above) s) (nowAt ws bs key v (d .at .0) (d .above) s) (done (numbersW (gotAt s (numAt ws (d .at .0))) [])) told
       → Meets (insertCall (poolTree ws bs) (slotsIn bs) key v) told ws bs vs cs
@@ -371,3 +412,8 @@ module _ {ws bs key : List ℕ} {d : Descent} (w : Known ws bs key d) where
       let g = get-place h key s (d .at .0) (d .end .0) (d .parent .0) (d .above) p in
       placed-meets (tree-is w) h key v by (w .short) vs cs (done (numbersW (gotAt s (numAt ws (d .at .0))) [])) told
       (splits h v key s (d .at .0) (d .end .0) (d .parent .0) (d .above) p) (ap (λ (n : Num). done (numbersW n [])) (sym g)) x
+
+  -- there is none
+  pub no-room : Bytes key → (v n k : ℕ) → n ≡ nodesOf ws → k ≡ newNodes (d .stop) (d .above) (length key) → length bs / 255 < n + k
+      → Meets (insertCall (poolTree ws bs) (slotsIn bs) key v) (refusal 4) ws bs ws bs
+  no-room by v n k e f h = meets by v (d .stop) refl ws bs (refusal 4) (full refl (omega (arith, total-at v (d .stop) refl)) refl refl)

@@ -1,5 +1,5 @@
--- Each way of ending by itself: whether there is room, and what is then placed. Assumes nothing.
-use mathlib.Core.Path.{_≡_, refl, sym, ap, _∙_}
+-- Each way of ending by itself: how many slots it takes, and what is placed. Assumes nothing.
+use mathlib.Core.Path.{_≡_, refl, sym, ap, _∙_, subst}
 use mathlib.Core.Bool.{Bool, true, false}
 use mathlib.Core.List.{List, [], _∷_, _++_}
 use mathlib.Core.Option.{none, some}
@@ -10,7 +10,7 @@ use lib.ListN.{length, getD, length-append}
 use Rattle.tree.specs.Key.{Key}
 use Rattle.tree.specs.Map.{Num}
 use Rattle.tree.specs.Image.{numbersW}
-use Rattle.tree.specs.Told.{Told, done, refusal}
+use Rattle.tree.specs.Told.{Told, done}
 use Rattle.pool.specs.Layout.{nodesOf, lenOf, spanOf, labelOf, startOf}
 use Rattle.pool.specs.Pool.{slotsIn}
 use Rattle.pool.specs.Rule.{PoolRule}
@@ -19,15 +19,20 @@ use Rattle.pool.specs.Spans.{Covers}
 use Rattle.label.proofs.Moves.{by-eq}
 use Rattle.pool.proofs.Runs.{run-length}
 use Rattle.pool.proofs.Spans.{covers-linked, covers-same, covers-to, rule-rests}
-use Rattle.insert.specs.Splices.{leafNodes, leafBares, Replaced, forkBares, forkSide, forkWas, total, Placed, full, grown}
+use Rattle.search.specs.declared.Stop.{Stop}
+use Rattle.insert.specs.Splices.{leafNodes, KeyLeft, newNodes, leafBares, Replaced, forkBares, forkSide, forkWas, total, Placed, grown}
 use Rattle.insert.proofs.Leaves.{run-one, leaf-length}
 use Rattle.insert.proofs.Spans.{Like, like}
 use Rattle.insert.proofs.Places.{upper-is}
 
-module _ (ws bs : List ℕ) (at was : ℕ) (xs : List Bare) (said : Told) (all : ℕ) (count : all ≡ total ws was xs) where
-  pub placed-full : length bs / 255 < all → Placed ws bs ws bs at was xs said (refusal 4)
-  placed-full h = full refl (omega arith) refl refl
+-- The place where the search has ended, under another name
+pub left-at : {s s′ : Stop} (above len : ℕ) → s ≡ s′ → KeyLeft s above len → KeyLeft s′ above len
+left-at above len e h = subst (λ (x : Stop). KeyLeft x above len) e h
 
+pub new-at : {s s′ : Stop} {r : ℕ} (above len : ℕ) → s ≡ s′ → r ≡ newNodes s′ above len → r ≡ newNodes s above len
+new-at above len e h = h ∙ ap (λ (x : Stop). newNodes x above len) (sym e)
+
+module _ (ws bs : List ℕ) (at was : ℕ) (xs : List Bare) (said : Told) (all : ℕ) (count : all ≡ total ws was xs) where
   pub placed-grown : (us vs cs : List ℕ) → all ≤ length bs / 255 → Replaced ws bs us cs at was xs → Settled us vs all → Placed ws bs vs cs at was xs said said
   placed-grown us vs cs h r s = grown us refl (omega arith) r (rw count at s)
 

@@ -11,6 +11,7 @@ use Rattle.tree.specs.Map.{Num}
 use Rattle.tree.specs.Tree.{nil}
 use Rattle.tree.specs.Insert.{leaf}
 use Rattle.tree.specs.Told.{Told, refusal}
+use Rattle.search.specs.declared.Stop.{Stop}
 use Rattle.pool.specs.Layout.{nodesOf, startOf, lenOf, spanOf, labelOf}
 use Rattle.pool.specs.Pool.{slotsIn}
 use Rattle.pool.specs.Rule.{PoolRule}
@@ -19,6 +20,22 @@ use Rattle.pool.specs.Splice.{Bare, bareAt, baresFrom, baresF, frontOf, backOf,
 -- The nodes of a new label of so many bytes: 255 are one node, 256 are two.
 abbrev pub leafNodes : (len : ℕ) → ℕ
 leafNodes len = (len - 1) / 255 + 1
+
+-- What is left of a key of `len` bytes, of which `above` are above the place where its search has ended
+abbrev pub KeyLeft : Stop → (above len : ℕ) → Type 0
+KeyLeft Stop.Root above len = Unit {0}
+KeyLeft Stop.Gap above len = above < len
+KeyLeft Stop.Same above len = Unit {0}
+KeyLeft (Stop.Inside m) above len = Unit {0}
+KeyLeft (Stop.Fork m) above len = above + m < len
+
+-- How many nodes the key adds there: none where it is stored, or its node is there
+abbrev pub newNodes : Stop → (above len : ℕ) → ℕ
+newNodes Stop.Root above len = 0
+newNodes Stop.Gap above len = leafNodes (len - above)
+newNodes Stop.Same above len = 0
+newNodes (Stop.Inside m) above len = 1
+newNodes (Stop.Fork m) above len = 1 + leafNodes (len - (above + m))
 
 -- The records of a new leaf for the bytes q, under a path of s bytes
 abbrev pub leafBares : (s : ℕ) (q : Key) (v : ℕ) → List Bare

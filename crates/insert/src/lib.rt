@@ -17,7 +17,7 @@ ghost use Rattle.pool.specs.Layout.{nodesOf, lenOf, spanOf, numAt};
 ghost use Rattle.pool.specs.Rule.{Within, PoolRule};
 ghost use Rattle.pool.specs.Splice.{bareAt, frontOf, backOf};
 ghost use Rattle.pool.specs.Spans.{Loose};
-ghost use Rattle.insert.specs.Splices.{leafNodes, leafBares, Built, Opens, Cuts, Replaced, Forks, forkBares, forkSide, forkWas, Placed};
+ghost use Rattle.insert.specs.Splices.{leafNodes, KeyLeft, newNodes, leafBares, Built, Opens, Cuts, Replaced, Forks, forkBares, forkSide, forkWas, Placed};
 use pool::splice::Stored;
 use search::Stop;
 use tree::Inserted;
@@ -30,6 +30,23 @@ fn chain_nodes(len: usize) -> usize
     ensures { λ r. ⌜ r ≡ leafNodes len ⌝ }
 {
     (len - 1) / 255 + 1
+}
+
+// How many slots a key of `len` bytes takes where its search has ended: none to set a number.
+fn new_nodes(stop: Stop, above: usize, len: usize) -> usize
+    requires { ⌜ KeyLeft stop above len ⌝ }
+    ensures { λ r. ⌜ (r ≡ newNodes stop above len) × (r ≤ len + 1) ⌝ }
+{
+    match stop {
+        Stop::Root => 0,
+        Stop::Gap => chain_nodes(len - above),
+        Stop::Same => 0,
+        Stop::Inside(_) => 1,
+        Stop::Fork(m) => {
+            let from = above + m;
+            1 + chain_nodes(len - from)
+        }
+    }
 }
 
 // Fills the slots from `at` on with a new leaf: a label over 255 bytes becomes 255 bytes without a number, over the rest
@@ -171,7 +188,7 @@ fn set_number(words: &mut [u32], at: Slot, number: RuleNo) -> Inserted
     }
 }
 
-// No node begins with the key's next byte: a new leaf stands at the slot, if there is room.
+// No node begins with the key's next byte: a new leaf stands at the slot, for which there is room.
 fn add_leaf(
     labels: &mut [u8],
     words: &mut [u32],
@@ -180,37 +197,29 @@ fn add_leaf(
     rest: &[u8],
     number: RuleNo,
 ) -> Inserted
-    requires { ⌜ Opens (now words) (now labels) (at .0) start (now rest) ⌝ }
+    requires { ⌜ Opens (now words) (now labels) (at .0) start (now rest) × (nodesOf (now words) + leafNodes (length (now rest)) ≤ slotsIn (now labels)) ⌝ }
     ensures { λ r. ⌜ Placed (now (words .entry)) (now (labels .entry)) (now (words .exit)) (now (labels .exit)) (at .0) 0 (leafBares start (now (rest .entry)) (number .0)) (done []) (insertedTold r) ⌝ }
 {
     let n = pool::nodes_in(words);
     let k = chain_nodes(rest.len());
-    let all = n + k;
-    if all > labels.len() / 255 {
-        return Inserted::NoRoom;
-    }
     open_leaf(labels, words, at, start, rest, number);
-    pool::splice::settle_at(words, all, at, k);
+    pool::splice::settle_at(words, n + k, at, k);
     Inserted::New
 }
 
-// The key ends inside the slot's label, which is cut there, if there is room.
+// The key ends inside the slot's label, which is cut there. There is room.
 fn add_cut(labels: &mut [u8], words: &mut [u32], at: Slot, m: usize, number: RuleNo) -> Inserted
-    requires { ⌜ PoolRule (now words) (now labels) × Cuts (now words) (at .0) m ⌝ }
+    requires { ⌜ PoolRule (now words) (now labels) × Cuts (now words) (at .0) m × (nodesOf (now words) + 1 ≤ slotsIn (now labels)) ⌝ }
     ensures { λ r. ⌜ Placed (now (words .entry)) (now (labels .entry)) (now (words .exit)) (now (labels .exit)) (at .0) 1 (frontOf m (some (number .0)) (bareAt (now (words .entry)) (now (labels .entry)) (at .0)) ∷ backOf m (bareAt (now (words .entry)) (now (labels .entry)) (at .0)) ∷ []) (done []) (insertedTold r) ⌝ }
 {
     let n = pool::nodes_in(words);
-    let all = n + 1;
     let lower = at.0 + 1;
-    if all > labels.len() / 255 {
-        return Inserted::NoRoom;
-    }
     cut_label(labels, words, at, m, number);
-    pool::splice::settle_at(words, all, Slot(lower), 1);
+    pool::splice::settle_at(words, n + 1, Slot(lower), 1);
     Inserted::New
 }
 
-// The key forks off inside the slot's label, if there is room.
+// The key forks off inside the slot's label. There is room.
 fn add_fork(
     labels: &mut [u8],
     words: &mut [u32],
@@ -219,18 +228,14 @@ fn add_fork(
     rest: &[u8],
     number: RuleNo,
 ) -> Inserted
-    requires { ⌜ PoolRule (now words) (now labels) × Forks (now words) (at .0) m (now rest) ⌝ }
+    requires { ⌜ PoolRule (now words) (now labels) × Forks (now words) (at .0) m (now rest) × (nodesOf (now words) + (1 + leafNodes (length (now rest))) ≤ slotsIn (now labels)) ⌝ }
     ensures { λ r. ⌜ Placed (now (words .entry)) (now (labels .entry)) (now (words .exit)) (now (labels .exit)) (at .0) (forkWas (now (words .entry)) (at .0) (forkSide (now (words .entry)) (now (labels .entry)) (at .0) m (now (rest .entry)))) (forkBares (now (words .entry)) (now (labels .entry)) (at .0) m (now (rest .entry)) (number .0) (forkSide (now (words .entry)) (now (labels .entry)) (at .0) m (now (rest .entry)))) (done []) (insertedTold r) ⌝ }
 {
     let n = pool::nodes_in(words);
     let k = 1 + chain_nodes(rest.len());
-    let all = n + k;
     let below = at.0 + 1;
-    if all > labels.len() / 255 {
-        return Inserted::NoRoom;
-    }
     fork_label(labels, words, at, m, rest, number);
-    pool::splice::settle_at(words, all, Slot(below), k);
+    pool::splice::settle_at(words, n + k, Slot(below), k);
     Inserted::New
 }
 
@@ -244,6 +249,11 @@ fn insert_in(labels: &mut [u8], words: &mut [u32], key: &[u8], number: RuleNo) -
     let at = d.at;
     let above = d.above;
     let stop = d.stop;
+    let n = pool::nodes_in(words);
+    let k = new_nodes(stop, above, key.len());
+    if n + k > labels.len() / 255 {
+        return Inserted::NoRoom;
+    }
     match stop {
         Stop::Root => set_number(words, at, number),
         Stop::Gap => add_leaf(labels, words, at, above, &key[above..], number),
