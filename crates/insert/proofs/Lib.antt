@@ -1,6 +1,7 @@
 pub mod Leaves
 pub mod Places
 pub mod Spans
+pub mod Parts
 pub mod Room
 pub mod Steps
 pub mod Grown

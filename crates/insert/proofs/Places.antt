@@ -5,7 +5,7 @@ use mathlib.Core.Bool.{true, false}
 use mathlib.Core.Option.{none}
 use Prim.Native.Nat.{ℕ, zero, suc, _+_, _*_, _-_, _≤_, _<_}
 use native.Mathlib.Omega.{arith}
-use lib.ListN.{length, take, drop, length-append, length-drop}
+use lib.ListN.{length, length-append, length-drop}
 use lib.Seq.{length-take-le}
 use Rattle.tree.specs.Key.{Key}
 use Rattle.tree.specs.Map.{Num}
@@ -20,7 +20,8 @@ use Rattle.pool.proofs.Spans.{Rests, rule-rests}
 use Rattle.pool.proofs.Runs.{Parts, run-cons, run-whole, run-ext, run-length}
 use Rattle.insert.specs.Splices.{leafNodes, leafBares, Built, Opens, Cuts, Replaced, Forks, forkBares}
 use Rattle.insert.proofs.Leaves.{run-one, leaf-length}
-use Rattle.insert.proofs.Spans.{Like, like, Leafy, leafy-kept, leafy-none, built-leafy, loose-at, leaf-loose, Upper, Lower, before-loose, behind-loose}
+use Rattle.insert.proofs.Spans.{like, Leafy, leafy-kept, built-leafy, loose-at, leaf-loose}
+use Rattle.insert.proofs.Parts.{Upper, Lower, before-loose, behind-loose}
 
 -- A slot that says what slot `at` said can be cut like it.
 pub record Cut (ws : List ℕ) (at m : ℕ) : Type 0 where

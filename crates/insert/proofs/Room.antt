@@ -12,7 +12,6 @@ use Rattle.tree.specs.Map.{Num}
 use Rattle.tree.specs.Image.{numbersW}
 use Rattle.tree.specs.Told.{Told, done}
 use Rattle.pool.specs.Layout.{nodesOf, lenOf, spanOf, labelOf, startOf}
-use Rattle.pool.specs.Pool.{slotsIn}
 use Rattle.pool.specs.Rule.{PoolRule}
 use Rattle.pool.specs.Splice.{Bare, bareAt, baresFrom, Filled, Settled, frontOf, backOf}
 use Rattle.pool.specs.Spans.{Covers}

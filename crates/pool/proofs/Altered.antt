@@ -35,6 +35,7 @@ module _ (ws bs : List ℕ) (at o v : ℕ) (low : 1 ≤ o) (high : o < 4) where
           head = λ j h. getD-set-other ws (6 * at + (8 + o)) j v 0 (λ q. omega arith);
           slot = e;
           others = λ i ne r. others i ne;
+          spans = λ i ne. getD-set-other ws (6 * at + (8 + o)) (6 * i + 12) v 0 (λ q. omega arith);
         };
         spans = λ i. getD-set-other ws (6 * at + (8 + o)) (6 * i + 12) v 0 (λ q. omega arith);
       }

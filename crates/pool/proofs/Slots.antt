@@ -87,13 +87,6 @@ sets-mid l i (v ∷ vs) (suc j) r h =
     let e : i + suc j ≡ suc i + j = omega arith in
     rw e (sets-mid (set l i v) (suc i) vs j (rw length-set (omega arith)) (omega arith))
 
--- A head put leaves every span.
-pub head-span : (ws : List ℕ) (at start len : ℕ) (w : Num) (i : ℕ) → spanOf (headPut ws at start len w) i ≡ spanOf ws i
-unfolding headPut
-head-span ws at start len w i =
-    let new = start ∷ len ∷ keysW w ∷ numberWord w ∷ [] in
-    by-lt i at (λ h. sets-low ws (6 * at + 8) new (6 * i + 12) (omega arith)) (λ h. sets-high ws (6 * at + 8) new (6 * i + 12) (omega arith))
-
 -- The stores of the code, one after another
 pub head-eq : (ws : List ℕ) (i start len : ℕ) (w : Num) (has number : ℕ) → has ≡ keysW w → number ≡ numberWord w
     → set (set (set (set ws (6 * i + 8) start) (6 * i + 9) len) (6 * i + 10) has) (6 * i + 11) number ≡ headPut ws i start len w

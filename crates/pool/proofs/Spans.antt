@@ -10,8 +10,8 @@ use Rattle.label.proofs.Moves.{by-lt, by-eq}
 use Rattle.pool.specs.Layout.{nodesOf, startOf, lenOf, spanOf, firstOf}
 use Rattle.pool.specs.Rule.{Children, done, child, NodeAt, PoolRule}
 use Rattle.pool.specs.Splice.{reach, Linked, Relinked}
-use Rattle.pool.specs.Spans.{Covers, Due, right, short, Loose, Raised}
-use Rattle.pool.proofs.Reach.{reach-none, reach-on, reach-stop, reach-at, start-kept, len-kept}
+use Rattle.pool.specs.Spans.{Covers, right, short, Loose, Raised}
+use Rattle.pool.proofs.Reach.{reach-none, reach-on, reach-stop, start-kept, len-kept}
 
 -- So many slots start deep enough, and the next one does not.
 reach-by : (ws : List ℕ) (b i m x : ℕ) → x ≤ m → ((y : ℕ) → i ≤ y → y < i + x → b ≤ startOf ws y) → (x < m → startOf ws (i + x) < b) → reach ws b i m ≡ x
