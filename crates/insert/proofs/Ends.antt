@@ -38,7 +38,7 @@ use Rattle.search.proofs.Answers.{Known, tree, tree-is, holds, place, gotAt, ge
 use Rattle.insert.specs.Splices.{leafBares, Opens, Cuts, Forks, forkBares, forkSide, forkWas, total, Placed, full, leafNodes, KeyLeft, newNodes}
 use Rattle.insert.proofs.Steps.{Step, front-whole, front-cut, back-cut, gap-step, same-step, inside-step, before-step, behind-step}
 use Rattle.insert.proofs.Leaves.{leaf-length}
-use Rattle.insert.proofs.Room.{fork-count}
+use Rattle.insert.proofs.Room.{new-at, fork-count}
 use Rattle.insert.proofs.Grown.{Splits, placed-meets}
 
 -- Behind the forest in its place comes nothing, or a slot that starts no deeper.
@@ -390,9 +390,7 @@ module _ {ws bs key : List ℕ} {d : Descent} (w : Known ws bs key d) where
   -- there is room, as the code has counted it
   module _ (n k : ℕ) (nodes : n ≡ nodesOf ws) (count : k ≡ newNodes (d .stop) (d .above) (length key)) where
     room-at : n + k ≤ length bs / 255 → (s : Stop) → d .stop ≡ s → nodesOf ws + newNodes s (d .above) (length key) ≤ slotsIn bs
-    room-at h s e =
-        let z : newNodes (d .stop) (d .above) (length key) ≡ newNodes s (d .above) (length key) = ap (λ (x : Stop). newNodes x (d .above) (length key)) e in
-        omega arith
+    room-at h s e = omega (arith, new-at (d .above) (length key) e)
 
     pub gap-room : n + k ≤ length bs / 255 → d .stop ≡ Stop.Gap → nodesOf ws + leafNodes (length (left key (d .above))) ≤ slotsIn bs
     gap-room h e = rw (left-length key (d .above)) (room-at h Stop.Gap e)

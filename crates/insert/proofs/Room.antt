@@ -28,8 +28,8 @@ use Rattle.insert.proofs.Places.{upper-is}
 pub left-at : {s s′ : Stop} (above len : ℕ) → s ≡ s′ → KeyLeft s above len → KeyLeft s′ above len
 left-at above len e h = subst (λ (x : Stop). KeyLeft x above len) e h
 
-pub new-at : {s s′ : Stop} {r : ℕ} (above len : ℕ) → s ≡ s′ → r ≡ newNodes s′ above len → r ≡ newNodes s above len
-new-at above len e h = h ∙ ap (λ (x : Stop). newNodes x above len) (sym e)
+pub new-at : {s s′ : Stop} (above len : ℕ) → s ≡ s′ → newNodes s above len ≡ newNodes s′ above len
+new-at above len e = ap (λ (x : Stop). newNodes x above len) e
 
 module _ (ws bs : List ℕ) (at was : ℕ) (xs : List Bare) (said : Told) (all : ℕ) (count : all ≡ total ws was xs) where
   pub placed-grown : (us vs cs : List ℕ) → all ≤ length bs / 255 → Replaced ws bs us cs at was xs → Settled us vs all → Placed ws bs vs cs at was xs said said

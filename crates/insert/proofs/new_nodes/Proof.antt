@@ -1,6 +1,4 @@
 -- `insert::new_nodes` meets its contract, by where the search has ended. Assumes nothing.
-use mathlib.Core.Path.{refl, ap}
-use Prim.Native.Nat.{ℕ, _+_}
 use native.Mathlib.Omega.{arith}
 use Rattle.insert.proofs.Room.{left-at, new-at}
 use borrow.Author.Needs.{needs}
@@ -41,23 +39,25 @@ add-result : tie.Need-add-result
 add-result c = omega (arith, c .chain-nodes2 .ensures)
 
 returns : tie.Need-returns
-returns c = (new-at _ _ (c .enum-told .given .1) refl, omega arith)
+returns c = let a = c .before .before .args in omega (arith, new-at (a .above) (a .len) (c .enum-told .given .1))
 
 returns-2 : tie.Need-returns-2
 returns-2 c =
-    let l = left-at _ _ (c .before .enum-told2 .given .1) (c .before .before .before .pre) in
-    (new-at _ _ (c .before .enum-told2 .given .1) (c .chain-nodes .ensures), omega (arith, c .chain-nodes .ensures))
+    let a = c .before .before .before .args in
+    let l = left-at (a .above) (a .len) (c .before .enum-told2 .given .1) (c .before .before .before .pre) in
+    omega (arith, new-at (a .above) (a .len) (c .before .enum-told2 .given .1), c .chain-nodes .ensures)
 
 returns-3 : tie.Need-returns-3
-returns-3 c = (new-at _ _ (c .enum-told3 .given .1) refl, omega arith)
+returns-3 c = let a = c .before .before .args in omega (arith, new-at (a .above) (a .len) (c .enum-told3 .given .1))
 
 returns-4 : tie.Need-returns-4
-returns-4 c = (new-at _ _ (c .enum-told4 .given .1) refl, omega arith)
+returns-4 c = let a = c .before .before .args in omega (arith, new-at (a .above) (a .len) (c .enum-told4 .given .1))
 
 returns-5 : tie.Need-returns-5
 returns-5 c =
-    let l = left-at _ _ (c .before .before .stop .given .1) (c .before .before .before .before .pre) in
-    (new-at _ _ (c .before .before .stop .given .1) (ap (λ (x : ℕ). 1 + x) (c .chain-nodes2 .ensures)), omega (arith, c .chain-nodes2 .ensures))
+    let a = c .before .before .before .before .args in
+    let l = left-at (a .above) (a .len) (c .before .before .stop .given .1) (c .before .before .before .before .pre) in
+    omega (arith, new-at (a .above) (a .len) (c .before .before .stop .given .1), c .chain-nodes2 .ensures)
 
 pub new-nodes-spec : {M : Type 1} → statement M
 new-nodes-spec =
