@@ -1,0 +1,247 @@
+// The words of a command line. Words are apart by one space; keys, prefixes and images are lower-case hex, `-` for none; numbers
+// are decimal without leading zeros; lists are joined by commas, `-` for none.
+
+ghost use mathlib.Core.Path.{_≡_};
+ghost use Rattle.line.specs.Words.{AloneOf, KeyedOf, PairedOf, NamedOf};
+ghost use Rattle.line.specs.Spelling.{FirstWord, HexTaken, KeyTaken, DecimalTaken, NumberTaken};
+ghost use Rattle.line.specs.Spelling.{nibble as Spelling·nibble};
+
+// A command with nothing but its pool.
+pub enum Alone {
+    Make,
+    Clear,
+    Counts,
+    Write,
+    Unknown,
+}
+
+// A command with one word more, a key or a prefix.
+pub enum Keyed {
+    Get,
+    Remove,
+    Longest,
+    Shared,
+    Walk,
+    Unknown,
+}
+
+// A command with two words more.
+pub enum Paired {
+    Insert,
+    Split,
+    Read,
+    Unknown,
+}
+
+// A pool's name.
+pub enum Named {
+    First,
+    Second,
+    Unknown,
+}
+
+// How many bytes or numbers a word has given, at the front of the room lent for them.
+pub enum Taken {
+    Count(usize),
+    Bad,
+}
+
+pub enum Numeral {
+    Is(u32),
+    Bad,
+}
+
+// Where the first word ends: at a space, or with the line.
+pub fn word_end(s: &[u8]) -> usize
+    ensures { λ r. ⌜ FirstWord (now (s .entry)) r ⌝ }
+{
+    bytes::scan::find(s, 0, s.len(), b' ')
+}
+
+pub fn verb_alone(s: &[u8]) -> Alone
+    ensures { λ r. ⌜ AloneOf r (now (s .entry)) ⌝ }
+{
+    if check::same(s, b"make") {
+        return Alone::Make;
+    }
+    if check::same(s, b"clear") {
+        return Alone::Clear;
+    }
+    if check::same(s, b"counts") {
+        return Alone::Counts;
+    }
+    if check::same(s, b"write") {
+        return Alone::Write;
+    }
+    Alone::Unknown
+}
+
+pub fn verb_keyed(s: &[u8]) -> Keyed
+    ensures { λ r. ⌜ KeyedOf r (now (s .entry)) ⌝ }
+{
+    if check::same(s, b"get") {
+        return Keyed::Get;
+    }
+    if check::same(s, b"remove") {
+        return Keyed::Remove;
+    }
+    if check::same(s, b"longest") {
+        return Keyed::Longest;
+    }
+    if check::same(s, b"shared") {
+        return Keyed::Shared;
+    }
+    if check::same(s, b"walk") {
+        return Keyed::Walk;
+    }
+    Keyed::Unknown
+}
+
+pub fn verb_paired(s: &[u8]) -> Paired
+    ensures { λ r. ⌜ PairedOf r (now (s .entry)) ⌝ }
+{
+    if check::same(s, b"insert") {
+        return Paired::Insert;
+    }
+    if check::same(s, b"split") {
+        return Paired::Split;
+    }
+    if check::same(s, b"read") {
+        return Paired::Read;
+    }
+    Paired::Unknown
+}
+
+pub fn pool_named(s: &[u8]) -> Named
+    ensures { λ r. ⌜ NamedOf r (now (s .entry)) ⌝ }
+{
+    if check::same(s, b"0") {
+        return Named::First;
+    }
+    if check::same(s, b"1") {
+        return Named::Second;
+    }
+    Named::Unknown
+}
+
+// The value of a hex digit, 16 for any other byte.
+fn nibble(b: u8) -> u8
+    ensures { λ r. ⌜ r ≡ Spelling·nibble b ⌝ }
+{
+    if b < 48 {
+        return 16;
+    }
+    if b < 58 {
+        return b - 48;
+    }
+    if b < 97 {
+        return 16;
+    }
+    if b < 103 {
+        return b - 87;
+    }
+    16
+}
+
+// Two hex digits for each byte.
+fn hex(s: &[u8], out: &mut [u8]) -> Taken
+    ensures { λ r. ⌜ HexTaken r (now (s .entry)) (now (out .exit)) ⌝ }
+{
+    let n = s.len() / 2;
+    if 2 * n < s.len() {
+        return Taken::Bad;
+    }
+    if out.len() < n {
+        return Taken::Bad;
+    }
+    let mut i: usize = 0;
+    while i < n {
+        let high = nibble(s[2 * i]);
+        let low = nibble(s[2 * i + 1]);
+        if high > 15 {
+            return Taken::Bad;
+        }
+        if low > 15 {
+            return Taken::Bad;
+        }
+        out[i] = 16 * high + low;
+        i += 1;
+    }
+    Taken::Count(n)
+}
+
+// A key, a prefix or the bytes of an image.
+pub fn key(s: &[u8], out: &mut [u8]) -> Taken
+    ensures { λ r. ⌜ KeyTaken r (now (s .entry)) (now (out .exit)) ⌝ }
+{
+    if check::same(s, b"-") {
+        return Taken::Count(0);
+    }
+    if s.len() == 0 {
+        return Taken::Bad;
+    }
+    hex(s, out)
+}
+
+// The digits of a number of 32 bits.
+fn digits(s: &[u8]) -> Numeral
+    ensures { λ r. ⌜ DecimalTaken r (now (s .entry)) ⌝ }
+{
+    let mut n: u64 = 0;
+    let mut i: usize = 0;
+    while i < s.len() {
+        let d = nibble(s[i]);
+        if d > 9 {
+            return Numeral::Bad;
+        }
+        n = 10 * n + d as u64;
+        if n > 4294967295 {
+            return Numeral::Bad;
+        }
+        i += 1;
+    }
+    Numeral::Is(n as u32)
+}
+
+// A number without leading zeros.
+pub fn number(s: &[u8]) -> Numeral
+    ensures { λ r. ⌜ NumberTaken r (now (s .entry)) ⌝ }
+{
+    if s.len() == 0 {
+        return Numeral::Bad;
+    }
+    if s.len() == 1 {
+        return digits(s);
+    }
+    if s[0] == b'0' {
+        return Numeral::Bad;
+    }
+    digits(s)
+}
+
+// Numbers joined by commas.
+fn many(s: &[u8], out: &mut [u32]) -> Taken {
+    let mut at: usize = 0;
+    let mut k: usize = 0;
+    while k < out.len() {
+        let e = bytes::scan::find(s, at, s.len(), b',');
+        let Numeral::Is(n) = number(&s[at..e]) else {
+            return Taken::Bad;
+        };
+        out[k] = n;
+        k += 1;
+        if e == s.len() {
+            return Taken::Count(k);
+        }
+        at = e + 1;
+    }
+    Taken::Bad
+}
+
+// The numbers of an image.
+pub fn numbers(s: &[u8], out: &mut [u32]) -> Taken {
+    if check::same(s, b"-") {
+        return Taken::Count(0);
+    }
+    many(s, out)
+}
