@@ -235,29 +235,89 @@ fn run_read(labels: &mut [u8], words: &mut [u32], word: &[u8], list: &[u8]) {
     }
 }
 
-fn two_words(labels: &mut [u8], words: &mut [u32], verb: &[u8], word: &[u8], other: &[u8]) {
+// A split names the other pool. The call is not there yet.
+fn run_split(
+    _labels: &mut [u8],
+    _words: &mut [u32],
+    _labels2: &mut [u8],
+    _words2: &mut [u32],
+    other: &[u8],
+    word: &[u8],
+    name: &[u8],
+) {
+    let mut room = [0u8; 65536];
+    let taken = line::key(word, &mut room);
+    let Taken::Count(_n) = taken else {
+        no_command();
+        return;
+    };
+    if !check::same(name, other) {
+        no_command();
+        return;
+    }
+    no_command();
+}
+
+fn two_words(
+    labels: &mut [u8],
+    words: &mut [u32],
+    labels2: &mut [u8],
+    words2: &mut [u32],
+    other: &[u8],
+    verb: &[u8],
+    word: &[u8],
+    last: &[u8],
+) {
     let command = line::verb_paired(verb);
     match command {
-        Paired::Insert => run_insert(labels, words, word, other),
-        Paired::Read => run_read(labels, words, word, other),
-        Paired::Split | Paired::Unknown => no_command(),
+        Paired::Insert => run_insert(labels, words, word, last),
+        Paired::Read => run_read(labels, words, word, last),
+        Paired::Split => run_split(labels, words, labels2, words2, other, word, last),
+        Paired::Unknown => no_command(),
     }
 }
 
 // The words behind the pool's name.
-fn more_words(labels: &mut [u8], words: &mut [u32], verb: &[u8], rest: &[u8]) {
+fn more_words(
+    labels: &mut [u8],
+    words: &mut [u32],
+    labels2: &mut [u8],
+    words2: &mut [u32],
+    other: &[u8],
+    verb: &[u8],
+    rest: &[u8],
+) {
     let n = line::word_end(rest);
     if n < rest.len() {
-        two_words(labels, words, verb, &rest[0..n], &rest[n + 1..]);
+        let last = &rest[n + 1..];
+        two_words(
+            labels,
+            words,
+            labels2,
+            words2,
+            other,
+            verb,
+            &rest[0..n],
+            last,
+        );
         return;
     }
     one_word(labels, words, verb, rest);
 }
 
-// A command on one pool; n is where the pool's name ends in the words behind the verb.
-fn in_pool(labels: &mut [u8], words: &mut [u32], verb: &[u8], rest: &[u8], n: usize) {
+// A command on one pool, beside the other and its name; n is where the pool's own name ends in the words behind the verb.
+fn in_pool(
+    labels: &mut [u8],
+    words: &mut [u32],
+    labels2: &mut [u8],
+    words2: &mut [u32],
+    other: &[u8],
+    verb: &[u8],
+    rest: &[u8],
+    n: usize,
+) {
     if n < rest.len() {
-        more_words(labels, words, verb, &rest[n + 1..]);
+        more_words(labels, words, labels2, words2, other, verb, &rest[n + 1..]);
         return;
     }
     run_alone(labels, words, verb);
@@ -273,13 +333,10 @@ fn with_pool(
     rest: &[u8],
 ) {
     let n = line::word_end(rest);
-    if n > rest.len() {
-        return;
-    }
     let name = line::pool_named(&rest[0..n]);
     match name {
-        Named::First => in_pool(labels, words, verb, rest, n),
-        Named::Second => in_pool(labels2, words2, verb, rest, n),
+        Named::First => in_pool(labels, words, labels2, words2, b"1", verb, rest, n),
+        Named::Second => in_pool(labels2, words2, labels, words, b"0", verb, rest, n),
         Named::Unknown => no_command(),
     }
 }
