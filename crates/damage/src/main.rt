@@ -1,20 +1,9 @@
 // A dozen images, each cut at every place and changed in every byte to every value, read into a pool of six slots. The
 // listed verdicts come from `bench/verdicts`, a second reader that shares no code with ours. A line of a byte has each
 // verdict behind the first value that gets it.
-use libc::STDOUT_FILENO;
 use tree::Loaded;
 use tree::RuleNo;
 use tree::Written;
-
-fn text(s: &[u8]) {
-    io::write_all(STDOUT_FILENO, s);
-}
-
-// A number behind a space.
-fn value(n: u64) {
-    text(b" ");
-    io::print_decimal(STDOUT_FILENO, n);
-}
 
 // The offset that a verdict has, or 0.
 fn offset_of(answer: Loaded) -> usize {
@@ -34,10 +23,10 @@ fn offset_of(answer: Loaded) -> usize {
 // The number of a verdict, and the offset of those that have one.
 fn verdict(answer: Loaded) {
     let number = answer.number();
-    value(number as u64);
+    print::value(number as u64);
     if number > 4 {
-        text(b" at");
-        value(offset_of(answer) as u64);
+        print::text(b" at");
+        print::value(offset_of(answer) as u64);
     }
 }
 
@@ -77,11 +66,11 @@ fn set_byte(image: &mut [u8], at: usize, byte: u8) {
 }
 
 fn cut(image: &[u8], numbers: &[u32], n: usize) {
-    text(b"cut");
-    value(n as u64);
-    text(b":");
+    print::text(b"cut");
+    print::value(n as u64);
+    print::text(b":");
     verdict(read_front(image, numbers, n));
-    text(b"\n");
+    print::text(b"\n");
 }
 
 fn cuts(image: &[u8], numbers: &[u32]) {
@@ -96,10 +85,10 @@ fn cuts(image: &[u8], numbers: &[u32]) {
 // The verdict on one value of a byte, printed if it is another than the last.
 fn tell(byte: u8, answer: Loaded, last: Loaded) -> Loaded {
     if !same(answer, last) {
-        value(byte as u64);
-        text(b" ->");
+        print::value(byte as u64);
+        print::text(b" ->");
         verdict(answer);
-        text(b",");
+        print::text(b",");
     }
     answer
 }
@@ -118,11 +107,11 @@ fn values(image: &mut [u8], numbers: &[u32], at: usize) {
 }
 
 fn place(image: &mut [u8], numbers: &[u32], at: usize) {
-    text(b"byte");
-    value(at as u64);
-    text(b":");
+    print::text(b"byte");
+    print::value(at as u64);
+    print::text(b":");
     values(image, numbers, at);
-    text(b"\n");
+    print::text(b"\n");
 }
 
 fn changes(image: &mut [u8], numbers: &[u32]) {
@@ -147,10 +136,10 @@ fn damage(labels: &[u8], words: &[u32]) {
     let mut image = [0u8; 64];
     let mut numbers = [0u32; 8];
     if let Written::Lengths(n, k) = writer::write(labels, words, &mut image, &mut numbers) {
-        text(b"image");
-        value(n as u64);
-        value(k as u64);
-        text(b"\n");
+        print::text(b"image");
+        print::value(n as u64);
+        print::value(k as u64);
+        print::text(b"\n");
         if k <= 8 {
             damage_front(&mut image, &numbers[0..k], n);
         }

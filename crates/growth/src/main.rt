@@ -1,6 +1,5 @@
 // Document 01's boundary examples, run: long keys, full pools, the orders that leave a trace, and a walk over a tree that
 // changes under it. Each answer begins with its number.
-use libc::STDOUT_FILENO;
 use tree::Counted;
 use tree::Inserted;
 use tree::RuleNo;
@@ -8,53 +7,43 @@ use tree::Stepped;
 use tree::Written;
 use walk::Walk;
 
-fn text(s: &[u8]) {
-    io::write_all(STDOUT_FILENO, s);
-}
-
-// A number behind a space.
-fn value(n: u64) {
-    text(b" ");
-    io::print_decimal(STDOUT_FILENO, n);
-}
-
 fn number(n: u32) {
-    io::print_decimal(STDOUT_FILENO, n as u64);
+    print::number(n as u64);
 }
 
 // Inserts a key, and says its length, the answer and the old number.
 fn put(labels: &mut [u8], words: &mut [u32], key: &[u8], v: RuleNo) {
     let answer = insert::insert(labels, words, key, v);
-    text(b"insert");
-    value(key.len() as u64);
-    text(b": ");
+    print::text(b"insert");
+    print::value(key.len() as u64);
+    print::text(b": ");
     number(answer.number());
     if let Inserted::Replaced(old) = answer {
-        value(old.0 as u64);
+        print::value(old.0 as u64);
     }
-    text(b"\n");
+    print::text(b"\n");
 }
 
 // Keys, nodes, and the bytes and numbers of the image.
 fn show(labels: &[u8], words: &[u32]) {
-    text(b"tree:");
+    print::text(b"tree:");
     if let Counted::Counts(keys, nodes) = pool::counts(labels, words) {
-        value(keys as u64);
-        value(nodes as u64);
+        print::value(keys as u64);
+        print::value(nodes as u64);
     }
     let mut bytes = [0u8; 8192];
     let mut numbers = [0u32; 128];
     if let Written::Lengths(n, k) = writer::write(labels, words, &mut bytes, &mut numbers) {
-        value(n as u64);
-        value(k as u64);
+        print::value(n as u64);
+        print::value(k as u64);
     }
-    text(b"\n");
+    print::text(b"\n");
 }
 
 fn make(labels: &mut [u8], words: &mut [u32]) {
-    text(b"make: ");
+    print::text(b"make: ");
     number(pool::make(labels, words).number());
-    text(b"\n");
+    print::text(b"\n");
 }
 
 // One key in a fresh pool.
@@ -77,16 +66,16 @@ fn step(w: Walk, labels: &[u8], words: &[u32]) -> Walk {
     let mut out = [0u8; 16];
     let s = w.step(labels, words, &mut out);
     let answer = s.answer;
-    text(b"step: ");
+    print::text(b"step: ");
     number(answer.number());
     if let Stepped::Key(n, v) = answer {
         if n <= 16 {
-            text(b" ");
-            text(&out[0..n]);
+            print::text(b" ");
+            print::text(&out[0..n]);
         }
-        value(v.0 as u64);
+        print::value(v.0 as u64);
     }
-    text(b"\n");
+    print::text(b"\n");
     s.walk
 }
 

@@ -1,24 +1,13 @@
 // Document 01's examples of remove and split, run: what is cut off and what is left, where two labels just fit into one and
 // where they just don't, and the two orders of inserting that leave a trace. Each answer begins with its number.
 ghost use Prim.Native.Nat.{_<_};
-use libc::STDOUT_FILENO;
 use tree::Counted;
 use tree::Got;
 use tree::RuleNo;
 use tree::Written;
 
-fn text(s: &[u8]) {
-    io::write_all(STDOUT_FILENO, s);
-}
-
-// A number behind a space.
-fn value(n: u64) {
-    text(b" ");
-    io::print_decimal(STDOUT_FILENO, n);
-}
-
 fn number(n: u32) {
-    io::print_decimal(STDOUT_FILENO, n as u64);
+    print::number(n as u64);
 }
 
 // A byte as a length.
@@ -36,19 +25,19 @@ fn lengths(image: &[u8]) {
             return;
         }
         let n = wide(image[at + 1]);
-        value(n as u64);
+        print::value(n as u64);
         at += 4 + n;
     }
 }
 
 // Keys and nodes of a tree, and the lengths of its labels.
 fn show(name: &[u8], labels: &[u8], words: &[u32]) {
-    text(name);
+    print::text(name);
     if let Counted::Counts(keys, nodes) = pool::counts(labels, words) {
-        value(keys as u64);
-        value(nodes as u64);
+        print::value(keys as u64);
+        print::value(nodes as u64);
     }
-    text(b" labels");
+    print::text(b" labels");
     let mut bytes = [0u8; 8192];
     let mut numbers = [0u32; 128];
     if let Written::Lengths(n, _) = writer::write(labels, words, &mut bytes, &mut numbers) {
@@ -56,7 +45,7 @@ fn show(name: &[u8], labels: &[u8], words: &[u32]) {
             lengths(&bytes[0..n]);
         }
     }
-    text(b"\n");
+    print::text(b"\n");
 }
 
 fn put(labels: &mut [u8], words: &mut [u32], key: &[u8], v: RuleNo) {
@@ -66,14 +55,14 @@ fn put(labels: &mut [u8], words: &mut [u32], key: &[u8], v: RuleNo) {
 // Removes a key, and says its length, the answer and the old number.
 fn take(labels: &mut [u8], words: &mut [u32], key: &[u8]) {
     let answer = remove::remove(labels, words, key);
-    text(b"remove");
-    value(key.len() as u64);
-    text(b": ");
+    print::text(b"remove");
+    print::value(key.len() as u64);
+    print::text(b": ");
     number(answer.number());
     if let Got::Number(old) = answer {
-        value(old.0 as u64);
+        print::value(old.0 as u64);
     }
-    text(b"\n");
+    print::text(b"\n");
     show(b"left", labels, words);
 }
 
@@ -86,11 +75,11 @@ fn cut(
     words2: &mut [u32],
 ) {
     let answer = split::split(labels, words, prefix, labels2, words2);
-    text(b"split");
-    value(prefix.len() as u64);
-    text(b": ");
+    print::text(b"split");
+    print::value(prefix.len() as u64);
+    print::text(b": ");
     number(answer.number());
-    text(b"\n");
+    print::text(b"\n");
     show(b"left", labels, words);
     show(b"detached", labels2, words2);
 }

@@ -1,5 +1,4 @@
 // Document 01's images and searches, run: each line begins with the number of the answer.
-use libc::STDOUT_FILENO;
 use tree::Counted;
 use tree::Got;
 use tree::Loaded;
@@ -8,110 +7,83 @@ use tree::RuleNo;
 use tree::Sharing;
 use tree::Written;
 
-fn text(s: &[u8]) {
-    io::write_all(STDOUT_FILENO, s);
-}
-
-// A number behind a space.
-fn value(n: u64) {
-    text(b" ");
-    io::print_decimal(STDOUT_FILENO, n);
-}
-
 fn number(n: u32) {
-    io::print_decimal(STDOUT_FILENO, n as u64);
-}
-
-fn line_end() {
-    text(b"\n");
+    print::number(n as u64);
 }
 
 fn show_counts(labels: &[u8], words: &[u32]) {
     let answer = pool::counts(labels, words);
-    text(b"counts: ");
+    print::text(b"counts: ");
     number(answer.number());
     if let Counted::Counts(keys, nodes) = answer {
-        value(keys as u64);
-        value(nodes as u64);
+        print::value(keys as u64);
+        print::value(nodes as u64);
     }
-    line_end();
+    print::line_end();
 }
 
 fn show_get(labels: &[u8], words: &[u32], key: &[u8]) {
     let answer = search::get(labels, words, key);
-    text(b"get ");
-    text(key);
-    text(b": ");
+    print::text(b"get ");
+    print::text(key);
+    print::text(b": ");
     number(answer.number());
     if let Got::Number(v) = answer {
-        value(v.0 as u64);
+        print::value(v.0 as u64);
     }
-    line_end();
+    print::line_end();
 }
 
 fn show_longest(labels: &[u8], words: &[u32], query: &[u8]) {
     let answer = search::longest(labels, words, query);
-    text(b"longest ");
-    text(query);
-    text(b": ");
+    print::text(b"longest ");
+    print::text(query);
+    print::text(b": ");
     number(answer.number());
     if let Prefixed::Longest(n, v) = answer {
-        value(n as u64);
-        value(v.0 as u64);
+        print::value(n as u64);
+        print::value(v.0 as u64);
     }
-    line_end();
+    print::line_end();
 }
 
 fn show_shared(labels: &[u8], words: &[u32], query: &[u8]) {
     let answer = search::shared(labels, words, query);
-    text(b"shared ");
-    text(query);
-    text(b": ");
+    print::text(b"shared ");
+    print::text(query);
+    print::text(b": ");
     number(answer.number());
     if let Sharing::Length(n) = answer {
-        value(n as u64);
+        print::value(n as u64);
     }
-    line_end();
+    print::line_end();
 }
 
 // The offset that a refusal of the reader has, or none.
 fn show_offset(answer: Loaded) {
     match answer {
         Loaded::Done | Loaded::NotPool | Loaded::PathTooLong | Loaded::NoRoom => {}
-        Loaded::CutShort(at) => value(at as u64),
-        Loaded::FlagByte(at) => value(at as u64),
-        Loaded::WrongLevel(at) => value(at as u64),
-        Loaded::LabelLength(at) => value(at as u64),
-        Loaded::SiblingOrder(at) => value(at as u64),
-        Loaded::IdleNode(at) => value(at as u64),
-        Loaded::NumberCount(at) => value(at as u64),
-        Loaded::BytesLeft(at) => value(at as u64),
+        Loaded::CutShort(at) => print::value(at as u64),
+        Loaded::FlagByte(at) => print::value(at as u64),
+        Loaded::WrongLevel(at) => print::value(at as u64),
+        Loaded::LabelLength(at) => print::value(at as u64),
+        Loaded::SiblingOrder(at) => print::value(at as u64),
+        Loaded::IdleNode(at) => print::value(at as u64),
+        Loaded::NumberCount(at) => print::value(at as u64),
+        Loaded::BytesLeft(at) => print::value(at as u64),
     }
 }
 
 fn read_in(labels: &mut [u8], words: &mut [u32], image: &[u8], numbers: &[u32]) {
     let answer = reader::read(labels, words, image, numbers);
-    text(b"read: ");
+    print::text(b"read: ");
     number(answer.number());
     show_offset(answer);
-    line_end();
-}
-
-// A byte as two hex digits.
-fn show_byte(b: u8) {
-    io::print_hex(STDOUT_FILENO, b as u64, 2);
-}
-
-fn show_bytes(bytes: &[u8]) {
-    let mut i: usize = 0;
-    while i < bytes.len() {
-        show_byte(bytes[i]);
-        i += 1;
-    }
+    print::line_end();
 }
 
 fn show_number(v: RuleNo) {
-    value(v.0 as u64);
+    print::value(v.0 as u64);
 }
 
 fn show_numbers(numbers: &[u32]) {
@@ -124,25 +96,25 @@ fn show_numbers(numbers: &[u32]) {
 
 // What the writer answered, with what it wrote or what it lacks.
 fn show_written(answer: Written, image: &[u8], numbers: &[u32]) {
-    text(b"write: ");
+    print::text(b"write: ");
     number(answer.number());
     match answer {
         Written::Lengths(n, k) => {
             if n <= image.len() {
-                text(b" ");
-                show_bytes(&image[0..n]);
+                print::text(b" ");
+                print::hex(&image[0..n]);
             }
             if k <= numbers.len() {
                 show_numbers(&numbers[0..k]);
             }
         }
         Written::Short(n, k) => {
-            value(n as u64);
-            value(k as u64);
+            print::value(n as u64);
+            print::value(k as u64);
         }
         Written::NotPool | Written::LevelOver => {}
     }
-    line_end();
+    print::line_end();
 }
 
 fn show_image(labels: &[u8], words: &[u32]) {
@@ -222,7 +194,7 @@ fn main() {
     let mut words = [0u32; 776];
     show_counts(&labels, &words);
     number(pool::make(&mut labels, &mut words).number());
-    line_end();
+    print::line_end();
     show_counts(&labels, &words);
     show_image(&labels, &words);
     read_part(&mut labels, &mut words, 0, 0);
@@ -236,6 +208,6 @@ fn main() {
     read_prefixes(&mut labels, &mut words);
     show_prefixes(&labels, &words);
     number(pool::clear(&mut labels, &mut words).number());
-    line_end();
+    print::line_end();
     show_counts(&labels, &words);
 }
