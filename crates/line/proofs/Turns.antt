@@ -6,15 +6,12 @@ use mathlib.Core.Bool.{Bool, true, false}
 use Prim.Native.Nat.{ℕ, zero, suc, _+_, _*_, _<_, _≤_}
 use native.Mathlib.Numerals.{add-one}
 use native.Mathlib.Omega.{arith}
-use native.Mathlib.Decide.{decLt}
 use lib.ListN.{length, getD, set, length-set}
 use lib.Seq.{getD-set-same, getD-set-other}
+use Rattle.label.proofs.Moves.{by-lt}
 use Rattle.line.specs.Spelling.{nibble, value, Decimal, Hexed, none, HexTaken, KeyTaken, DecimalTaken, NumberTaken}
 use Rattle.line.specs.declared.Taken.{Taken}
 use Rattle.line.specs.declared.Numeral.{Numeral}
-
-pub by-lt : {C : Type 0} (a b : ℕ) → (a < b → C) → (b ≤ a → C) → C
-by-lt a b f g = elim (decLt a b) [ yes p ↦ f p | no n ↦ g (omega arith) ]
 
 -- A test has one answer.
 pub apart : {b : Bool} → b ≡ true → b ≡ false → ⊥

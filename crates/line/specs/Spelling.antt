@@ -4,7 +4,7 @@ use mathlib.Core.List.{List, [], _∷_, _++_}
 use mathlib.Core.Bool.{cond}
 use mathlib.Core.Logic.{_⊎_}
 use Prim.Native.Nat.{ℕ, zero, suc, _+_, _-_, _*_, _/_, _≤_, _<_}
-use lib.ListN.{length, getD, take}
+use lib.ListN.{length, getD, take, drop}
 use lib.Dec.{ltb}
 use Rattle.bytes.specs.Bytes.{indexOf}
 use Rattle.line.specs.declared.Taken.{Taken}
@@ -68,3 +68,23 @@ pub record Number (s : List ℕ) : Type 0 where
 abbrev pub NumberTaken : Numeral → List ℕ → Type 0
 NumberTaken (Numeral.Is n) s = Number s × (n ≡ value s (length s))
 NumberTaken Numeral.Bad s = Number s → ⊥
+
+-- The first word of a list: up to the first comma, or all of it
+abbrev pub firstOf : List ℕ → List ℕ
+firstOf s = take (indexOf 44 s) s
+
+-- s is a list of the numbers ns, joined by commas.
+pub data Listed : List ℕ → List ℕ → Type 0 where
+  last : {s : List ℕ} → indexOf 44 s ≡ length s → Number (firstOf s) → Listed s (value (firstOf s) (length (firstOf s)) ∷ [])
+  more : {s ns : List ℕ} → indexOf 44 s < length s → Number (firstOf s) → Listed (drop (indexOf 44 s + 1) s) ns
+      → Listed s (value (firstOf s) (length (firstOf s)) ∷ ns)
+
+-- A list is taken wherever there is room for its numbers.
+abbrev pub ManyTaken : Taken → List ℕ → List ℕ → Type 0
+ManyTaken (Taken.Count k) s out = (k ≤ length out) × Listed s (take k out)
+ManyTaken Taken.Bad s out = (ns : List ℕ) → Listed s ns → length ns ≤ length out → ⊥
+
+-- The numbers of an image: `-`, or a list
+abbrev pub ListTaken : Taken → List ℕ → List ℕ → Type 0
+ListTaken (Taken.Count k) s out = ((s ≡ none) × (k ≡ 0)) ⊎ ((k ≤ length out) × Listed s (take k out))
+ListTaken Taken.Bad s out = (s ≡ none → ⊥) × ((ns : List ℕ) → Listed s ns → length ns ≤ length out → ⊥)

@@ -3,7 +3,7 @@
 
 ghost use mathlib.Core.Path.{_≡_};
 ghost use Rattle.line.specs.Words.{AloneOf, KeyedOf, PairedOf, NamedOf};
-ghost use Rattle.line.specs.Spelling.{FirstWord, HexTaken, KeyTaken, DecimalTaken, NumberTaken};
+ghost use Rattle.line.specs.Spelling.{FirstWord, HexTaken, KeyTaken, DecimalTaken, NumberTaken, ManyTaken, ListTaken};
 ghost use Rattle.line.specs.Spelling.{nibble as Spelling·nibble};
 
 // A command with nothing but its pool.
@@ -220,7 +220,9 @@ pub fn number(s: &[u8]) -> Numeral
 }
 
 // Numbers joined by commas.
-fn many(s: &[u8], out: &mut [u32]) -> Taken {
+fn many(s: &[u8], out: &mut [u32]) -> Taken
+    ensures { λ r. ⌜ ManyTaken r (now (s .entry)) (now (out .exit)) ⌝ }
+{
     let mut at: usize = 0;
     let mut k: usize = 0;
     while k < out.len() {
@@ -239,7 +241,9 @@ fn many(s: &[u8], out: &mut [u32]) -> Taken {
 }
 
 // The numbers of an image.
-pub fn numbers(s: &[u8], out: &mut [u32]) -> Taken {
+pub fn numbers(s: &[u8], out: &mut [u32]) -> Taken
+    ensures { λ r. ⌜ ListTaken r (now (s .entry)) (now (out .exit)) ⌝ }
+{
     if check::same(s, b"-") {
         return Taken::Count(0);
     }

@@ -3,14 +3,11 @@ use mathlib.Core.Path.{_≡_, refl, _∙_}
 use mathlib.Core.List.{List}
 use Prim.Native.Nat.{ℕ, _+_, _*_, _/_, _%_, _<_, _≤_}
 use native.Mathlib.Omega.{arith}
-use native.Mathlib.Decide.{decLt}
 use lib.ListN.{length, getD, set, length-set}
 use lib.Seq.{getD-set-same, getD-set-other}
+use Rattle.label.proofs.Moves.{by-lt}
 use Rattle.io.specs.Digits.{glyph}
 use Rattle.print.specs.Hex.{Spelling}
-
-by-lt : {C : Type 0} (a b : ℕ) → (a < b → C) → (b ≤ a → C) → C
-by-lt a b f g = elim (decLt a b) [ yes p ↦ f p | no n ↦ g (omega arith) ]
 
 pub spell-none : (s was : List ℕ) → Spelling s was was 0
 spell-none s was =

@@ -1,4 +1,5 @@
--- `line::many` is safe and ends. Assumes nothing.
+-- `line::many` meets its contract: each turn takes one number. Assumes nothing.
+use Rattle.line.proofs.Lists.{Listing, listing-none, listing-bad, listing-last, listing-step, listing-full, comma, numbered}
 use native.Mathlib.Omega.{arith}
 use lib.ListN.{length, length-set}
 use Prim.Native.Nat.{_-_, _≤_}
@@ -7,13 +8,13 @@ use Rattle.line.proofs.many.Statement.{statement}
 use Rattle.line.proofs.many.Tie as tie
 
 abbrev Inv-loop : tie.InvT-loop
-Inv-loop s out₀ at₀ k₀ out at k = (at ≤ length s) × (length out ≡ length out₀) × (k ≤ length out)
+Inv-loop s out₀ at₀ k₀ out at k = Listing s out₀ out at k
 
 abbrev μ-loop : tie.MeasureT-loop
 μ-loop s out₀ at₀ k₀ out at k = length out - k
 
 loop-holds : tie.Need-loop-holds Inv-loop μ-loop
-loop-holds c = omega arith
+loop-holds c = listing-none _ _
 
 find-requires : tie.Need-find-requires Inv-loop μ-loop
 find-requires c κs = omega arith
@@ -40,7 +41,11 @@ same-length : tie.Need-same-length Inv-loop μ-loop
 same-length c = omega arith
 
 returns : tie.Need-returns Inv-loop μ-loop
-returns c = omega arith
+returns c =
+    let m = c .before .before in
+    let at = m .before .before .before .before in
+    let f = m .before .before .find .ensures in
+    listing-bad (m .number .result) _ _ _ _ _ _ (comma _ _ _ (f .0) (f .1)) (m .number .ensures) (c .enum-told .given .1) (at .loop .inv)
 
 mul-out : tie.Need-mul-out Inv-loop μ-loop
 mul-out c = omega arith
@@ -55,7 +60,13 @@ same-length-2 : tie.Need-same-length-2 Inv-loop μ-loop
 same-length-2 c = simp length-set (omega arith)
 
 returns-2 : tie.Need-returns-2 Inv-loop μ-loop
-returns-2 c = omega arith
+returns-2 c =
+    let m = c .before .before .before .before in
+    let at = m .before .before .before .before in
+    let f = m .before .before .find .ensures in
+    let comes = comma _ _ _ (f .0) (f .1) in
+    let n = numbered (m .number .result) _ _ _ _ comes (m .number .ensures) (c .before .before .n .given .1) in
+    (simp length-set (omega arith), listing-last _ _ _ _ _ _ _ (omega arith) comes (c .if1 .taken) n (at .loop .inv))
 
 add-at : tie.Need-add-at Inv-loop μ-loop
 add-at c = omega arith
@@ -64,13 +75,19 @@ loop-less : tie.Need-loop-less Inv-loop μ-loop
 loop-less c = simp length-set (omega arith)
 
 loop-again : tie.Need-loop-again Inv-loop μ-loop
-loop-again c = (omega arith, simp length-set (omega arith), simp length-set (omega arith))
+loop-again c =
+    let m = c .before .before .before .before in
+    let at = m .before .before .before .before in
+    let f = m .before .before .find .ensures in
+    let comes = comma _ _ _ (f .0) (f .1) in
+    let n = numbered (m .number .result) _ _ _ _ comes (m .number .ensures) (c .before .before .n .given .1) in
+    listing-step _ _ _ _ _ _ _ (omega arith) comes (c .if1 .left) n (at .loop .inv)
 
 same-length-3 : tie.Need-same-length-3 Inv-loop μ-loop
 same-length-3 c = omega arith
 
 returns-3 : tie.Need-returns-3 Inv-loop μ-loop
-returns-3 c = omega arith
+returns-3 c = listing-full _ _ _ _ _ (omega arith) (c .before .loop .inv)
 
 pub many-spec : {M : Type 1} → statement M
 many-spec =

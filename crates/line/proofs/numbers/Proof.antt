@@ -1,0 +1,34 @@
+-- `line::numbers` meets its contract. Assumes nothing.
+use Rattle.line.proofs.Lists.{list-taken}
+use Rattle.line.proofs.Turns.{apart}
+use mathlib.Core.Logic.{inl}
+use mathlib.Core.Path.{refl}
+use borrow.Author.Needs.{needs}
+use Rattle.line.proofs.numbers.Statement.{statement}
+use Rattle.line.proofs.numbers.Tie as tie
+
+slice-aggregate-same : tie.Need-slice-aggregate-same
+slice-aggregate-same c = search needs
+
+same-requires : tie.Need-same-requires
+same-requires c κs = search needs
+
+returns : tie.Need-returns
+returns c = inl (c .before .same .ensures .0 (c .if1 .taken), refl)
+
+many-requires : tie.Need-many-requires
+many-requires c κs = search needs
+
+same-length : tie.Need-same-length
+same-length c = search needs
+
+returns-2 : tie.Need-returns-2
+returns-2 c =
+    let m = c .before .before in
+    let at = m .before .before in
+    list-taken (m .many .result) _ _ (λ e. apart (at .before .same .ensures .1 e) (at .if1 .left)) (m .many .ensures)
+
+pub numbers-spec : {M : Type 1} → statement M
+numbers-spec =
+    tie.close
+    (tie.spec slice-aggregate-same same-requires returns many-requires same-length returns-2)
