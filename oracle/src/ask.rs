@@ -4,6 +4,7 @@
 //!   map's own length, and the keys of its iterator as KEY=N joined by commas; or `refused WHY`, or `panicked WHY`
 //! - `rust-get BYTES NUMBERS KEY`, `rust-remove BYTES NUMBERS KEY`: the same call on the map loaded from the image: `took N LEN`,
 //!   `-` for no number
+//! - `rust-put BYTES NUMBERS KEY N`: insert on the map loaded from the image, and then what `rust-read` says of it
 //! - `rust-insert P KEY N`: `took LEN NODES` of the map with that key, of any length
 //! - `rust-write P`: the image with the allocated bits as they stand
 //! - `rust-split P PREFIX`: `PatriciaMap::split_by_prefix`: the image and numbers of the part, and how many of its own keys it finds
@@ -74,6 +75,13 @@ pub fn answer(maps: &[Map; 2], words: &[&[u8]]) -> Option<String> {
             loaded(&tree.bytes()?, &numbers.numbers()?, |mut map| {
                 let old = map.remove(&key);
                 format!("took {} {}", shown(old), map.len())
+            })
+        }
+        (b"rust-put", [tree, numbers, key, n]) => {
+            let (key, n) = (key.bytes()?, number(n)?);
+            loaded(&tree.bytes()?, &numbers.numbers()?, |mut map| {
+                map.insert(&key, n);
+                took(&map)
             })
         }
         (b"rust-insert", [p, key, n]) => {

@@ -71,8 +71,7 @@ fn write(labels: &[u8], words: &[u32]) {
     print::line_end();
 }
 
-fn get(labels: &[u8], words: &[u32], key: &[u8]) {
-    let answer = search::get(labels, words, key);
+fn tell_got(answer: Got) {
     tell_number(answer.number());
     if let Got::Number(v) = answer {
         print::value(v.0 as u64);
@@ -176,7 +175,7 @@ fn run_alone(labels: &mut [u8], words: &mut [u32], verb: &[u8]) {
 fn run_keyed(labels: &mut [u8], words: &mut [u32], verb: &[u8], key: &[u8]) {
     let command = line::verb_keyed(verb);
     match command {
-        Keyed::Get => get(labels, words, key),
+        Keyed::Get => tell_got(search::get(labels, words, key)),
         Keyed::Longest => longest(labels, words, key),
         Keyed::Shared => shared(labels, words, key),
         Keyed::Walk => walk_all(labels, words, key),
