@@ -182,15 +182,20 @@ def damaged(runs, seed=4):
         yield 'write 1'
 
 
-# Every cut and every one-byte change of the images of `bench/verdicts`.
-def every_change():
+# Every cut and every one-byte change of the images of `bench/verdicts`, each with the numbers that the whole image has.
+def changed_images():
     for keys in verdicts.SETS:
-        whole, numbers = verdicts.image(keys), listed(range(1, len(keys) + 1))
+        whole, numbers = verdicts.image(keys), list(range(1, len(keys) + 1))
         for n in range(len(whole) + 1):
-            yield 'read 0 %s %s' % (hexed(whole[:n]), numbers)
+            yield whole[:n], numbers
         for at in range(len(whole)):
             for byte in range(256):
-                yield 'read 0 %s %s' % (hexed(whole[:at] + bytes([byte]) + whole[at + 1:]), numbers)
+                yield whole[:at] + bytes([byte]) + whole[at + 1:], numbers
+
+
+def every_change():
+    for tree, numbers in changed_images():
+        yield 'read 0 %s %s' % (hexed(tree), listed(numbers))
 
 
 # Paths of 4,095 to 4,097 bytes, and 127 to 130 nodes, as images.
