@@ -179,7 +179,8 @@ fn run_keyed(labels: &mut [u8], words: &mut [u32], verb: &[u8], key: &[u8]) {
         Keyed::Longest => longest(labels, words, key),
         Keyed::Shared => shared(labels, words, key),
         Keyed::Walk => walk_all(labels, words, key),
-        Keyed::Remove | Keyed::Unknown => no_command(),
+        Keyed::Remove => tell_got(remove::remove(labels, words, key)),
+        Keyed::Unknown => no_command(),
     }
 }
 
@@ -234,19 +235,19 @@ fn run_read(labels: &mut [u8], words: &mut [u32], word: &[u8], list: &[u8]) {
     }
 }
 
-// A split names the other pool. The call is not there yet.
+// A split names the other pool.
 fn run_split(
-    _labels: &mut [u8],
-    _words: &mut [u32],
-    _labels2: &mut [u8],
-    _words2: &mut [u32],
+    labels: &mut [u8],
+    words: &mut [u32],
+    labels2: &mut [u8],
+    words2: &mut [u32],
     other: &[u8],
     word: &[u8],
     name: &[u8],
 ) {
     let mut room = [0u8; 65536];
     let taken = line::key(word, &mut room);
-    let Taken::Count(_n) = taken else {
+    let Taken::Count(n) = taken else {
         no_command();
         return;
     };
@@ -254,7 +255,11 @@ fn run_split(
         no_command();
         return;
     }
-    no_command();
+    if n <= 65536 {
+        let answer = split::split(labels, words, &room[0..n], labels2, words2);
+        tell_number(answer.number());
+        print::line_end();
+    }
 }
 
 fn two_words(
