@@ -1,0 +1,79 @@
+-- What an exported call returns and leaves. The call's answer is told as document 01's number, which is returned, and the
+-- values besides, which go to the results that the caller lends by pointer.
+use mathlib.Core.Path.{_≡_}
+use mathlib.Core.List.{List, [], _∷_}
+use mathlib.Core.Option.{Option, none, some}
+use Prim.Native.Nat.{ℕ, zero, suc}
+use lib.ListN.{length, getD}
+use Rattle.tree.specs.Key.{Key}
+use Rattle.tree.specs.Map.{Pair}
+use Rattle.tree.specs.Tree.{Tree}
+use Rattle.tree.specs.Told.{Told}
+use Rattle.tree.specs.Calls.{Outcome, refuses, leaves, SplitOutcome, refusesBoth, leavesBoth, stepCall, writeCall}
+use Rattle.pool.specs.Post.{Meets}
+use Rattle.split.specs.Post.{MeetBoth}
+use Rattle.writer.specs.Post.{front, Writes}
+use Rattle.walk.specs.Walks.{stepOf}
+
+-- The value told at place i, or what stood there where none is told
+abbrev pub given : Told → (i kept : ℕ) → ℕ
+given told i kept = getD (told .values) i kept
+
+-- The values written over the first results; a result that no value is told for stays.
+unfoldable pub over : (values results : List ℕ) → List ℕ
+over [] rs = rs
+over (v ∷ vs) [] = []
+over (v ∷ vs) (r ∷ rs) = v ∷ over vs rs
+
+-- The number is returned, and the results hold what is told besides.
+pub record Returns (told : Told) (r : ℕ) (results results′ : List ℕ) : Type 0 where
+  pub number : r ≡ told .number
+  pub values : results′ ≡ over (told .values) results
+
+abbrev pub outcomeTold : Outcome → Told
+outcomeTold (refuses x) = x
+outcomeTold (leaves x t) = x
+
+-- A call that changes a pool also leaves the two lent slices as the call's outcome says.
+pub record Changes (o : Outcome) (r : ℕ) (results results′ ws bs vs cs : List ℕ) : Type 0 where
+  pub returns : Returns (outcomeTold o) r results results′
+  pub left : Meets o (outcomeTold o) ws bs vs cs
+
+-- With 0, how many values are told goes before them: 1 or 0 says whether there was an old number.
+abbrev pub numbered : ℕ → List ℕ → List ℕ
+numbered zero vs = length vs ∷ vs
+numbered (suc n) vs = vs
+
+abbrev pub flagged : Told → Told
+flagged told = record { number = told .number; values = numbered (told .number) (told .values) }
+
+pub record Inserts (o : Outcome) (r : ℕ) (results results′ ws bs vs cs : List ℕ) : Type 0 where
+  pub returns : Returns (flagged (outcomeTold o)) r results results′
+  pub left : Meets o (outcomeTold o) ws bs vs cs
+
+abbrev pub bothTold : SplitOutcome → Told
+bothTold (refusesBoth x) = x
+bothTold (leavesBoth x d u) = x
+
+pub record Splits (o : SplitOutcome) (r : ℕ) (ws bs ws₂ bs₂ vs cs vs₂ cs₂ : List ℕ) : Type 0 where
+  pub returns : Returns (bothTold o) r [] []
+  pub left : MeetBoth o (bothTold o) ws bs ws₂ bs₂ vs cs vs₂ cs₂
+
+-- The last key of a walk whose state is lent: none where `begun` is 0, whatever the slice holds
+unfoldable pub lastGiven : (begun : ℕ) → Key → Option Key
+lastGiven zero l = none
+lastGiven (suc n) l = some l
+
+-- With 0 the key stands at the front of the output; with any other number the output is what it was.
+unfoldable pub keyWritten : (number : ℕ) → Option Pair → List ℕ → List ℕ
+keyWritten zero (some x) out = front (x .0) out
+keyWritten zero none out = out
+keyWritten (suc n) x out = out
+
+pub record NextGiven (o : Option Tree) (p : Key) (l : Option Key) (r : ℕ) (results results′ out out′ : List ℕ) : Type 0 where
+  pub returns : Returns (stepCall o p l (length out)) r results results′
+  pub bytes : out′ ≡ keyWritten r (stepOf o p l) out
+
+pub record Written (o : Option Tree) (r : ℕ) (results results′ tree numbers tree′ numbers′ : List ℕ) : Type 0 where
+  pub returns : Returns (writeCall o (length tree) (length numbers)) r results results′
+  pub left : Writes o (writeCall o (length tree) (length numbers)) tree numbers tree′ numbers′
