@@ -114,7 +114,12 @@ fn fill_kids(
     let mut c = from;
     loop {
         let at = c.at;
-        let next = fill_node(labels, words, tree, numbers, path, c);
+        let end = fill_node(labels, words, tree, numbers, path, c);
+        let next = Cursor {
+            at: end.at,
+            slot: Slot(end.slot.0),
+            next: end.next,
+        };
         if has_sibling(tree[at]) == 0 {
             return next;
         }

@@ -199,7 +199,11 @@ fn check_kids(tree: &[u8], level: Level, path: usize, from: Mark) -> Part
                     return Part::Went(next);
                 }
                 least = byte(tree, at + 4) + 1;
-                m = next;
+                m = Mark {
+                    at: next.at,
+                    left: next.left,
+                    nodes: next.nodes,
+                };
             }
         }
     }
