@@ -90,7 +90,7 @@ fn write_record(
 }
 
 // Writes the siblings in the slots from .. end with all below them, and gives the place behind them. A loop goes along
-// the siblings, and a call down to the children of each. Counterpart: the loop of `Node::serialize` over its stack.
+// the siblings, and a call down to the children of each that has any. Counterpart: the loop of `Node::serialize` over its stack.
 fn write_siblings(
     labels: &[u8],
     words: &[u32],
@@ -108,6 +108,11 @@ fn write_siblings(
     while c < end.0 {
         let next = c + pool::span_at(words, Slot(c));
         let kids = write_record(labels, words, Slot(c), level, next < end.0, out, place);
+        if next <= c + 1 {
+            place = kids;
+            c = next;
+            continue;
+        }
         place = write_siblings(
             labels,
             words,

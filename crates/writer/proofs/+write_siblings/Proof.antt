@@ -59,22 +59,33 @@ add-next t c = omega (arith, node-at t (c .before) .inside)
 write-record-requires : (t : ℕ) → lts.Need-write-record-requires (told t) (entered t) reads.Post Inv-loop μ-loop
 write-record-requires t c κs = along-record (along-at t (c .before .before .before)) (c .before .before .before .if1 .taken) (c .before .before .before .before .before .before .before .before .before .pre .1 .within) (c .before .before .before .before .before .before .before .before .before .pre .1 .fits)
 
+add-if2 : (t : ℕ) → lts.Need-add-if2 (told t) (entered t) reads.Post Inv-loop μ-loop
+add-if2 t c = omega arith
+
+loop-less : (t : ℕ) → lts.Need-loop-less (told t) (entered t) reads.Post Inv-loop μ-loop
+loop-less t c = omega (arith, node-at t (c .before .before .before .before .before .before .before) .some)
+
+-- a node without children: nothing is put below it
+loop-again : (t : ℕ) → lts.Need-loop-again (told t) (entered t) reads.Post Inv-loop μ-loop
+loop-again t c =
+    (omega arith, λ f r. along-step (c .before .before .before .before .before .before .before .before .before .loop .inv .1 f r) (c .before .before .before .before .before .before .before .if1 .taken) (omega arith) (c .before .before .before .write-record .ensures) (λ g q. along-done (along-none _ _ q) (c .if2 .taken)))
+
 add-t13 : (t : ℕ) → lts.Need-add-t13 (told t) (entered t) reads.Post Inv-loop μ-loop
 add-t13 t c = omega arith
 
 add-t18 : (t : ℕ) → lts.Need-add-t18 (told t) (entered t) reads.Post Inv-loop μ-loop
-add-t18 t c = omega (arith, node-at t (c .before .before .before .before .before .before .before) .shallow)
+add-t18 t c = omega (arith, node-at t (c .before .before .before .before .before .before .before .before) .shallow)
 
 write-siblings-requires : (t : ℕ) → lts.Need-write-siblings-requires (told t) (entered t) reads.Post Inv-loop μ-loop
 write-siblings-requires t c κs =
-    (omega (arith, node-at t (c .before .before .before .before .before .before .before .before) .inside), along-room (along-at t (c .before .before .before .before .before .before .before .before)) (c .before .before .before .before .before .before .before .before .if1 .taken) (c .before .before .before .before .before .before .before .before .before .before .before .before .before .before .pre .1 .within) (c .before .before .before .before .before .before .before .before .before .before .before .before .before .before .pre .1 .fits) (omega arith) (c .before .before .before .before .write-record .ensures))
+    (omega (arith, node-at t (c .before .before .before .before .before .before .before .before .before) .inside), along-room (along-at t (c .before .before .before .before .before .before .before .before .before)) (c .before .before .before .before .before .before .before .before .before .if1 .taken) (c .before .before .before .before .before .before .before .before .before .before .before .before .before .before .before .pre .1 .within) (c .before .before .before .before .before .before .before .before .before .before .before .before .before .before .before .pre .1 .fits) (omega arith) (c .before .before .before .before .before .write-record .ensures))
 
-loop-less : (t : ℕ) → lts.Need-loop-less (told t) (entered t) reads.Post Inv-loop μ-loop
-loop-less t c = omega (arith, node-at t (c .before .before .before .before .before .before .before .before .before .before .before) .some)
+loop-less-2 : (t : ℕ) → lts.Need-loop-less-2 (told t) (entered t) reads.Post Inv-loop μ-loop
+loop-less-2 t c = omega (arith, node-at t (c .before .before .before .before .before .before .before .before .before .before .before .before) .some)
 
-loop-again : (t : ℕ) → lts.Need-loop-again (told t) (entered t) reads.Post Inv-loop μ-loop
-loop-again t c =
-    (omega arith, λ f r. along-step (c .before .before .before .before .before .before .before .before .before .before .before .before .before .loop .inv .1 f r) (c .before .before .before .before .before .before .before .before .before .before .before .if1 .taken) (omega arith) (c .before .before .before .before .before .before .before .write-record .ensures) (c .before .before .write-siblings .ensures))
+loop-again-2 : (t : ℕ) → lts.Need-loop-again-2 (told t) (entered t) reads.Post Inv-loop μ-loop
+loop-again-2 t c =
+    (omega arith, λ f r. along-step (c .before .before .before .before .before .before .before .before .before .before .before .before .before .before .loop .inv .1 f r) (c .before .before .before .before .before .before .before .before .before .before .before .before .if1 .taken) (omega arith) (c .before .before .before .before .before .before .before .before .write-record .ensures) (c .before .before .write-siblings .ensures))
 
 same-length : (t : ℕ) → lts.Need-same-length (told t) (entered t) reads.Post Inv-loop μ-loop
 same-length t c = put-length (c .before .before .loop .inv .1 (c .before .before .before .before .before .before .pre .1 .forest) (c .before .before .before .before .before .before .pre .1 .run) .put)
@@ -90,10 +101,13 @@ pub +write-siblings-spec : {M : Type 1} → statement M
     (span-at-requires t)
     (add-next t)
     (write-record-requires t)
+    (add-if2 t)
+    (loop-less t)
+    (loop-again t)
     (add-t13 t)
     (add-t18 t)
     (write-siblings-requires t)
-    (loop-less t)
-    (loop-again t)
+    (loop-less-2 t)
+    (loop-again-2 t)
     (same-length t)
     (returns t)
