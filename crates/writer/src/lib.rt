@@ -30,7 +30,7 @@ fn deeper(a: Level, b: Level) -> Level
 }
 
 // The deepest level of the siblings in the slots from .. end and of all below them; 0 where there are none. A loop goes
-// along the siblings, and a call down to the children of each.
+// along the siblings, and a call down to the children of each that has any.
 fn deepest(words: &[u32], from: Slot, end: Slot, level: Level) -> Level
     requires { ⌜ Reads (now words) (from .0) (end .0) (level .0) ⌝ }
     ensures { λ r. ⌜ Deepest (now (words .entry)) (from .0) (end .0) (level .0) (r .0) ⌝ }
@@ -39,6 +39,11 @@ fn deepest(words: &[u32], from: Slot, end: Slot, level: Level) -> Level
     let mut c = from.0;
     while c < end.0 {
         let next = c + pool::span_at(words, Slot(c));
+        if next <= c + 1 {
+            deep = deeper(deep, level);
+            c = next;
+            continue;
+        }
         let below = deepest(words, Slot(c + 1), Slot(next), Level(level.0 + 1));
         deep = deeper(deep, deeper(level, below));
         c = next;

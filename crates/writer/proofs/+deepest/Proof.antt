@@ -28,7 +28,7 @@ below t = and 1 kinds.ps (falls 1 kinds.ps _<_ μ-deepest t) reads.Pre
 
 -- what it is told of the functions that it calls
 abbrev told : ℕ → lts.Claims
-told t = (span-at-reads.Asked, span-at-reads.Learnt, below t, reads.Post, deeper-reads.Asked, deeper-reads.Learnt)
+told t = (span-at-reads.Asked, span-at-reads.Learnt, deeper-reads.Asked, deeper-reads.Learnt, below t, reads.Post)
 
 abbrev Inv-loop : lts.InvT-loop
 Inv-loop words end level deep₀ c₀ deep c =
@@ -55,27 +55,41 @@ span-at-requires t c κs = omega arith
 add-next : (t : ℕ) → lts.Need-add-next (told t) (entered t) reads.Post Inv-loop μ-loop
 add-next t c = omega (arith, node-at t (c .before) .inside)
 
-add-t10 : (t : ℕ) → lts.Need-add-t10 (told t) (entered t) reads.Post Inv-loop μ-loop
-add-t10 t c = omega arith
-
-add-t13 : (t : ℕ) → lts.Need-add-t13 (told t) (entered t) reads.Post Inv-loop μ-loop
-add-t13 t c = omega (arith, node-at t (c .before .before) .shallow)
-
-deepest-requires : (t : ℕ) → lts.Need-deepest-requires (told t) (entered t) reads.Post Inv-loop μ-loop
-deepest-requires t c κs = (omega (arith, node-at t (c .before .before) .inside), down-reads (down-at t (c .before .before)) (c .before .before .if1 .taken) (c .before .before .before .before .before .before .pre .1 .words) (omega arith))
+add-if2 : (t : ℕ) → lts.Need-add-if2 (told t) (entered t) reads.Post Inv-loop μ-loop
+add-if2 t c = omega arith
 
 deeper-requires : (t : ℕ) → lts.Need-deeper-requires (told t) (entered t) reads.Post Inv-loop μ-loop
 deeper-requires t c κs = tt
 
+loop-less : (t : ℕ) → lts.Need-loop-less (told t) (entered t) reads.Post Inv-loop μ-loop
+loop-less t c = omega (arith, node-at t (c .before .before .before) .some)
+
+-- a node without children: there is no level below it
+loop-again : (t : ℕ) → lts.Need-loop-again (told t) (entered t) reads.Post Inv-loop μ-loop
+loop-again t c =
+    (omega arith, λ bs f r. down-step (c .before .before .before .before .before .loop .inv .1 bs f r) (c .before .before .before .if1 .taken) (omega arith) (λ ds g q. down-done (down-none q) (c .before .if2 .taken)) (omega arith))
+
+add-t10 : (t : ℕ) → lts.Need-add-t10 (told t) (entered t) reads.Post Inv-loop μ-loop
+add-t10 t c = omega arith
+
+add-t13 : (t : ℕ) → lts.Need-add-t13 (told t) (entered t) reads.Post Inv-loop μ-loop
+add-t13 t c = omega (arith, node-at t (c .before .before .before) .shallow)
+
+deepest-requires : (t : ℕ) → lts.Need-deepest-requires (told t) (entered t) reads.Post Inv-loop μ-loop
+deepest-requires t c κs = (omega (arith, node-at t (c .before .before .before) .inside), down-reads (down-at t (c .before .before .before)) (c .before .before .before .if1 .taken) (c .before .before .before .before .before .before .before .pre .1 .words) (omega arith))
+
 deeper-requires-2 : (t : ℕ) → lts.Need-deeper-requires-2 (told t) (entered t) reads.Post Inv-loop μ-loop
 deeper-requires-2 t c κs = tt
 
-loop-less : (t : ℕ) → lts.Need-loop-less (told t) (entered t) reads.Post Inv-loop μ-loop
-loop-less t c = omega (arith, node-at t (c .before .before .before .before .before) .some)
+deeper-requires-3 : (t : ℕ) → lts.Need-deeper-requires-3 (told t) (entered t) reads.Post Inv-loop μ-loop
+deeper-requires-3 t c κs = tt
 
-loop-again : (t : ℕ) → lts.Need-loop-again (told t) (entered t) reads.Post Inv-loop μ-loop
-loop-again t c =
-    (omega arith, λ bs f r. down-step (c .before .before .before .before .before .before .before .loop .inv .1 bs f r) (c .before .before .before .before .before .if1 .taken) (omega arith) (c .before .before .deepest .ensures) (omega arith))
+loop-less-2 : (t : ℕ) → lts.Need-loop-less-2 (told t) (entered t) reads.Post Inv-loop μ-loop
+loop-less-2 t c = omega (arith, node-at t (c .before .before .before .before .before .before) .some)
+
+loop-again-2 : (t : ℕ) → lts.Need-loop-again-2 (told t) (entered t) reads.Post Inv-loop μ-loop
+loop-again-2 t c =
+    (omega arith, λ bs f r. down-step (c .before .before .before .before .before .before .before .before .loop .inv .1 bs f r) (c .before .before .before .before .before .before .if1 .taken) (omega arith) (c .before .before .deepest .ensures) (omega arith))
 
 returns : (t : ℕ) → lts.Need-returns (told t) (entered t) reads.Post Inv-loop μ-loop
 returns t c = λ bs f r. down-done (c .before .before .loop .inv .1 bs f r) (c .if1 .left)
@@ -87,11 +101,15 @@ pub +deepest-spec : {M : Type 1} → statement M
     (loop-holds t)
     (span-at-requires t)
     (add-next t)
+    (add-if2 t)
+    (deeper-requires t)
+    (loop-less t)
+    (loop-again t)
     (add-t10 t)
     (add-t13 t)
     (deepest-requires t)
-    (deeper-requires t)
     (deeper-requires-2 t)
-    (loop-less t)
-    (loop-again t)
+    (deeper-requires-3 t)
+    (loop-less-2 t)
+    (loop-again-2 t)
     (returns t)
