@@ -3,15 +3,17 @@ use mathlib.Core.Path.{_≡_, refl, sym, ap, _∙_, subst}
 use mathlib.Core.List.{List, [], _∷_, _++_, append-assoc, append-nil}
 use Prim.Native.Nat.{ℕ, zero, suc, _+_, _*_, _-_, _≤_, _<_}
 use native.Mathlib.Omega.{arith}
-use lib.ListN.{length, getD}
+use mathlib.Core.Logic.{⊎-elim}
+use lib.ListN.{length, getD, take, drop}
+use lib.Seq.{take-take}
 use Rattle.tree.specs.Tree.{Forest, nil, node}
 use Rattle.label.specs.Runs.{MovedDown}
 use Rattle.label.proofs.Moves.{by-lt, by-eq}
 use Rattle.pool.specs.Layout.{lenOf}
 use Rattle.pool.specs.Records.{run}
-use Rattle.pool.specs.Splice.{Bare, bareAt, baresFrom, nodeBare, baresF, Filled, keepIf, solid, Swept, gone, kept, Closed}
+use Rattle.pool.specs.Splice.{Bare, bareAt, baresFrom, nodeBare, baresF, Filled, Covers, keepIf, solid, Swept, gone, kept, Closed}
 use Rattle.pool.proofs.Runs.{run-join, run-cons, run-ext}
-use Rattle.pool.proofs.Slots.{bare-eq, block-eq, at-place}
+use Rattle.pool.proofs.Slots.{bare-eq, bare-by, block-eq, at-place}
 
 keep-append : (m : ℕ) (x : Bare) (xs ys : List Bare) → keepIf m x (xs ++ ys) ≡ keepIf m x xs ++ ys
 keep-append zero x xs ys = refl
@@ -45,19 +47,30 @@ solid-forest s (node b l w kids rest) =
     let x = nodeBare s b l w in
     solid-append (x ∷ []) (baresF d kids ++ baresF s rest) ∙ cc (solid-kept x (λ e. omega arith), solid-append (baresF d kids) (baresF s rest))
 
+-- Rooms that agree in as many bytes as have the label agree in the label.
+label-by : (len m : ℕ) (cs bs : List ℕ) → Covers len m → take m cs ≡ take m bs → take len (take 255 cs) ≡ take len (take 255 bs)
+label-by len m cs bs c e =
+    ⊎-elim
+    (λ (h : len ≤ m).
+    let f : take len (take m cs) ≡ take len (take m bs) = ap (take len) e in
+    rw (take-take len 255 cs (omega (arith, c .most)), take-take len 255 bs (omega (arith, c .most)), ← take-take len m cs h, ← take-take len m bs h) f)
+    (λ (h : m ≡ 255). ap (take len) (rw h at e))
+    (c .enough)
+
 -- A slot moved down
-pub slot-lowered : (ws bs vs cs : List ℕ) (i to k : ℕ) → to < i → k ≡ i - to → 6 * i + 14 ≤ length ws → 255 * i + 255 ≤ length bs
-    → MovedDown ws vs (6 * i + 8) (6 * i + 14) (6 * k) → MovedDown bs cs (255 * i) (255 * i + 255) (255 * k) → Filled ws bs vs cs to (bareAt ws bs i)
-slot-lowered ws bs vs cs i to k h e rw′ rb s t =
+pub slot-lowered : (ws bs vs cs : List ℕ) (i to k n : ℕ) → to < i → k ≡ i - to → 6 * i + 14 ≤ length ws → 255 * i + 255 ≤ length bs → Covers (lenOf ws i) n
+    → MovedDown ws vs (6 * i + 8) (6 * i + 14) (6 * k) → MovedDown bs cs (255 * i) (255 * i + n) (255 * k) → Filled ws bs vs cs to (bareAt ws bs i)
+slot-lowered ws bs vs cs i to k n h e rw′ rb v s t =
     let lb = t .len in
     record {
       lenW = s .len;
       lenB = t .len;
       head = λ j l. s .low j (omega arith);
       slot =
-          bare-eq vs cs ws bs to i
+          bare-by vs cs ws bs to i
           (λ o l. s .mid (6 * to + (8 + o)) (omega arith) (omega arith) ∙ at-place ws (omega arith))
-          (block-eq cs bs (255 * to) (255 * i) 255 (omega arith) (omega arith) (λ j l. t .mid (255 * to + j) (omega arith) (omega arith) ∙ at-place bs (omega arith)));
+          (label-by (lenOf ws i) n (drop (255 * to) cs) (drop (255 * i) bs) v
+          (block-eq cs bs (255 * to) (255 * i) n (omega (arith, v .most)) (omega (arith, v .most)) (λ j l. t .mid (255 * to + j) (omega arith) (omega arith) ∙ at-place bs (omega arith))));
       others = λ x ne r.
           by-lt x to
           (λ l.
@@ -68,7 +81,7 @@ slot-lowered ws bs vs cs i to k h e rw′ rb s t =
           let g : to < x = by-lt to x (λ m. m) (λ m. absurd (ne (omega arith))) in
           bare-eq vs cs ws bs x x
           (λ o m. s .high (6 * x + (8 + o)) (omega arith))
-          (block-eq cs bs (255 * x) (255 * x) 255 (omega arith) r (λ j m. t .high (255 * x + j) (omega arith))));
+          (block-eq cs bs (255 * x) (255 * x) 255 (omega arith) r (λ j m. t .high (255 * x + j) (omega (arith, v .most)))));
       spans = λ x ne.
           by-lt x to (λ l. s .low (6 * x + 12) (omega arith))
           (λ l. let g : to < x = by-lt to x (λ m. m) (λ m. absurd (ne (omega arith))) in s .high (6 * x + 12) (omega arith));

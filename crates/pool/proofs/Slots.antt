@@ -27,16 +27,21 @@ block-eq vs ws b a m hv hw same =
     let h : j < m = omega (arith, l, length-take m (drop b vs)) in
     simp (getD-take m (drop b vs) j 0 h, getD-take m (drop a ws) j 0 h, getD-drop) (same j h))
 
--- the words of a slot agree, and its 255 bytes: it says the same
-pub bare-eq : (vs cs ws bs : List ℕ) (j i : ℕ) → ((o : ℕ) → o < 4 → getD vs (6 * j + (8 + o)) 0 ≡ getD ws (6 * i + (8 + o)) 0)
-    → block cs (255 * j) 255 ≡ block bs (255 * i) 255 → bareAt vs cs j ≡ bareAt ws bs i
+-- the words of a slot agree, and the bytes of its label: it says the same
+pub bare-by : (vs cs ws bs : List ℕ) (j i : ℕ) → ((o : ℕ) → o < 4 → getD vs (6 * j + (8 + o)) 0 ≡ getD ws (6 * i + (8 + o)) 0)
+    → take (lenOf ws i) (block cs (255 * j) 255) ≡ labelOf ws bs i → bareAt vs cs j ≡ bareAt ws bs i
 unfolding bareAt
-bare-eq vs cs ws bs j i w b =
+bare-by vs cs ws bs j i w b =
     let w₀ : startOf vs j ≡ startOf ws i = w 0 (omega arith) in
     let w₁ : lenOf vs j ≡ lenOf ws i = w 1 (omega arith) in
     let w₂ : hasOf vs j ≡ hasOf ws i = w 2 (omega arith) in
     let w₃ : numberOf vs j ≡ numberOf ws i = w 3 (omega arith) in
     rw (w₀, w₁, w₂, w₃, b)
+
+-- the same where all of its 255 bytes agree
+pub bare-eq : (vs cs ws bs : List ℕ) (j i : ℕ) → ((o : ℕ) → o < 4 → getD vs (6 * j + (8 + o)) 0 ≡ getD ws (6 * i + (8 + o)) 0)
+    → block cs (255 * j) 255 ≡ block bs (255 * i) 255 → bareAt vs cs j ≡ bareAt ws bs i
+bare-eq vs cs ws bs j i w b = bare-by vs cs ws bs j i w (ap (take (lenOf ws i)) b)
 
 pub at-place : (vs : List ℕ) {x y : ℕ} → x ≡ y → getD vs x 0 ≡ getD vs y 0
 at-place vs e = ap (λ (x : ℕ). getD vs x 0) e

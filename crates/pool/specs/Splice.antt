@@ -122,6 +122,11 @@ pub record Filled (ws bs vs cs : List ℕ) (at : ℕ) (x : Bare) : Type 0 where
   pub others : (i : ℕ) → (i ≡ at → ⊥) → 255 * i + 255 ≤ length bs → bareAt vs cs i ≡ bareAt ws bs i
   pub spans : (i : ℕ) → (i ≡ at → ⊥) → spanOf vs i ≡ spanOf ws i
 
+-- So many of the 255 bytes of a slot's room have all of its label.
+pub record Covers (len m : ℕ) : Type 0 where
+  pub most : m ≤ 255
+  pub enough : len ≤ m ⊎ m ≡ 255
+
 -- The records with a label
 abbrev pub keepIf : (len : ℕ) → Bare → List Bare → List Bare
 keepIf zero x xs = xs

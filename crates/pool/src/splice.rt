@@ -5,7 +5,7 @@ ghost use mathlib.Core.List.{List};
 ghost use Prim.Native.Nat.{ℕ, _+_, _*_, _-_, _≤_, _<_};
 ghost use lib.ListN.{length, set};
 ghost use Rattle.pool.specs.Layout.{nodesOf, startOf, lenOf, spanOf, numAt};
-ghost use Rattle.pool.specs.Splice.{reach, Linked, Relinked, Settled, Room, Moved, storedOf, headPut, labelPut, bareOf, bareAt, frontOf, backOf, Filled, Swept, Closed};
+ghost use Rattle.pool.specs.Splice.{reach, Linked, Relinked, Settled, Room, Moved, storedOf, headPut, labelPut, bareOf, bareAt, frontOf, backOf, Filled, Covers, Swept, Closed};
 ghost use Rattle.pool.specs.Spans.{Loose, Raised};
 use tree::RuleNo;
 use tree::Slot;
@@ -213,15 +213,28 @@ pub fn keep_back(labels: &mut [u8], words: &mut [u32], at: Slot, m: usize)
     label::move_bytes_down(labels, from + m, from + len, m);
 }
 
-// Moves one slot down.
+// How many bytes of a slot's room its label takes: all of them, where the length is no label's.
+fn label_room(words: &[u32], at: Slot) -> usize
+    requires { ⌜ 6 * at .0 + 14 ≤ length (now words) ⌝ }
+    ensures { λ r. ⌜ Covers (lenOf (now (words .entry)) (at .0)) r ⌝ }
+{
+    let n = crate::len_at(words, at);
+    if n > 255 {
+        return 255;
+    }
+    n
+}
+
+// Moves one slot down: its words, and the bytes of its label.
 fn lower_slot(labels: &mut [u8], words: &mut [u32], from: Slot, to: Slot)
     requires { ⌜ (to .0 < from .0) × (6 * from .0 + 14 ≤ length (now words)) × (255 * from .0 + 255 ≤ length (now labels)) ⌝ }
     ensures { λ _. ⌜ Filled (now (words .entry)) (now (labels .entry)) (now (words .exit)) (now (labels .exit)) (to .0) (bareAt (now (words .entry)) (now (labels .entry)) (from .0)) ⌝ }
 {
     let i = from.0;
     let k = i - to.0;
+    let n = label_room(words, from);
     label::move_words_down(words, 6 * i + 8, 6 * i + 14, 6 * k);
-    label::move_bytes_down(labels, 255 * i, 255 * i + 255, 255 * k);
+    label::move_bytes_down(labels, 255 * i, 255 * i + n, 255 * k);
 }
 
 // Keeps slot `from`, as slot `to`, or passes it: one without a label is a gap. Gives the next place.

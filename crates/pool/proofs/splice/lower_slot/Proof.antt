@@ -9,6 +9,9 @@ use Rattle.pool.proofs.splice.lower_slot.Tie as tie
 sub-k : tie.Need-sub-k
 sub-k c = search needs
 
+label-room-requires : tie.Need-label-room-requires
+label-room-requires c κs = search needs
+
 mul-move-words-down : tie.Need-mul-move-words-down
 mul-move-words-down c = search needs
 
@@ -49,13 +52,14 @@ same-length-2 : tie.Need-same-length-2
 same-length-2 c = search needs
 
 returns : tie.Need-returns
-returns c = slot-lowered _ _ _ _ _ _ _ (omega arith) refl (omega arith) (omega arith) (search needs) (search needs)
+returns c = slot-lowered _ _ _ _ _ _ _ _ (omega arith) refl (omega arith) (omega arith) (c .before .before .before .before .before .before .before .before .label-room .ensures) (search needs) (search needs)
 
 pub lower-slot-spec : {M : Type 1} → statement M
 lower-slot-spec =
     tie.close
     (tie.spec
     sub-k
+    label-room-requires
     mul-move-words-down
     add-move-words-down
     mul-move-words-down-2
