@@ -11,7 +11,7 @@ use Rattle.label.specs.Runs.{MovedDown}
 use Rattle.label.proofs.Moves.{by-lt, by-eq}
 use Rattle.pool.specs.Layout.{lenOf}
 use Rattle.pool.specs.Records.{run}
-use Rattle.pool.specs.Splice.{Bare, bareAt, baresFrom, nodeBare, baresF, Filled, Covers, keepIf, solid, Swept, gone, kept, Closed}
+use Rattle.pool.specs.Splice.{Bare, bareAt, baresFrom, nodeBare, baresF, Filled, LabelIn, keepIf, solid, Swept, gone, kept, Closed}
 use Rattle.pool.proofs.Runs.{run-join, run-cons, run-ext}
 use Rattle.pool.proofs.Slots.{bare-eq, bare-by, block-eq, at-place}
 
@@ -48,7 +48,7 @@ solid-forest s (node b l w kids rest) =
     solid-append (x ∷ []) (baresF d kids ++ baresF s rest) ∙ cc (solid-kept x (λ e. omega arith), solid-append (baresF d kids) (baresF s rest))
 
 -- Rooms that agree in as many bytes as have the label agree in the label.
-label-by : (len m : ℕ) (cs bs : List ℕ) → Covers len m → take m cs ≡ take m bs → take len (take 255 cs) ≡ take len (take 255 bs)
+label-by : (len m : ℕ) (cs bs : List ℕ) → LabelIn len m → take m cs ≡ take m bs → take len (take 255 cs) ≡ take len (take 255 bs)
 label-by len m cs bs c e =
     ⊎-elim
     (λ (h : len ≤ m).
@@ -58,7 +58,7 @@ label-by len m cs bs c e =
     (c .enough)
 
 -- A slot moved down
-pub slot-lowered : (ws bs vs cs : List ℕ) (i to k n : ℕ) → to < i → k ≡ i - to → 6 * i + 14 ≤ length ws → 255 * i + 255 ≤ length bs → Covers (lenOf ws i) n
+pub slot-lowered : (ws bs vs cs : List ℕ) (i to k n : ℕ) → to < i → k ≡ i - to → 6 * i + 14 ≤ length ws → 255 * i + 255 ≤ length bs → LabelIn (lenOf ws i) n
     → MovedDown ws vs (6 * i + 8) (6 * i + 14) (6 * k) → MovedDown bs cs (255 * i) (255 * i + n) (255 * k) → Filled ws bs vs cs to (bareAt ws bs i)
 slot-lowered ws bs vs cs i to k n h e rw′ rb v s t =
     let lb = t .len in

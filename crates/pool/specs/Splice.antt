@@ -123,7 +123,7 @@ pub record Filled (ws bs vs cs : List ℕ) (at : ℕ) (x : Bare) : Type 0 where
   pub spans : (i : ℕ) → (i ≡ at → ⊥) → spanOf vs i ≡ spanOf ws i
 
 -- So many of the 255 bytes of a slot's room have all of its label.
-pub record Covers (len m : ℕ) : Type 0 where
+pub record LabelIn (len m : ℕ) : Type 0 where
   pub most : m ≤ 255
   pub enough : len ≤ m ⊎ m ≡ 255
 

@@ -5,7 +5,7 @@ ghost use mathlib.Core.List.{List};
 ghost use Prim.Native.Nat.{ℕ, _+_, _*_, _-_, _≤_, _<_};
 ghost use lib.ListN.{length, set};
 ghost use Rattle.pool.specs.Layout.{nodesOf, startOf, lenOf, spanOf, numAt};
-ghost use Rattle.pool.specs.Splice.{reach, Linked, Relinked, Settled, Room, Moved, storedOf, headPut, labelPut, bareOf, bareAt, frontOf, backOf, Filled, Covers, Swept, Closed};
+ghost use Rattle.pool.specs.Splice.{reach, Linked, Relinked, Settled, Room, Moved, storedOf, headPut, labelPut, bareOf, bareAt, frontOf, backOf, Filled, LabelIn, Swept, Closed};
 ghost use Rattle.pool.specs.Spans.{Loose, Raised};
 use tree::RuleNo;
 use tree::Slot;
@@ -216,7 +216,7 @@ pub fn keep_back(labels: &mut [u8], words: &mut [u32], at: Slot, m: usize)
 // How many bytes of a slot's room its label takes: all of them, where the length is no label's.
 fn label_room(words: &[u32], at: Slot) -> usize
     requires { ⌜ 6 * at .0 + 14 ≤ length (now words) ⌝ }
-    ensures { λ r. ⌜ Covers (lenOf (now (words .entry)) (at .0)) r ⌝ }
+    ensures { λ r. ⌜ LabelIn (lenOf (now (words .entry)) (at .0)) r ⌝ }
 {
     let n = crate::len_at(words, at);
     if n > 255 {
