@@ -151,7 +151,7 @@ fn splits(data: &Data, full: &Pool) -> Vec<Row> {
         assert_eq!(part.len(), into.counts().0);
         took
     });
-    vec![Row { what: "split, one key of 25", here, rust: Some(rust) }]
+    vec![Row { what: "split, a 25th of the keys", here, rust: Some(rust) }]
 }
 
 fn images(data: &Data, pool: &mut Pool) -> Vec<Row> {
