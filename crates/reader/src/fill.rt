@@ -115,6 +115,7 @@ fn fill_kids(
     loop {
         let at = c.at;
         let end = fill_node(labels, words, tree, numbers, path, c);
+        // Field by field: copied as a block, the words just written would be waited for (docs/PERFORMANCE.md).
         let next = Cursor {
             at: end.at,
             slot: Slot(end.slot.0),

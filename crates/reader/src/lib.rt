@@ -199,6 +199,7 @@ fn check_kids(tree: &[u8], level: Level, path: usize, from: Mark) -> Part
                     return Part::Went(next);
                 }
                 least = byte(tree, at + 4) + 1;
+                // Field by field, as in the fill.
                 m = Mark {
                     at: next.at,
                     left: next.left,
