@@ -21,9 +21,10 @@
  * A POOL
  *
  * A pool of S slots, S from 1 to 16,384, is a slice of YARNHOLLOW_LABELS(S) bytes and one of YARNHOLLOW_WORDS(S) words. It
- * holds one tree of at most S nodes. `yarnhollow_make` turns any two slices of these lengths into an empty pool. Each
- * other call tests the whole pool first, so that a pool that was damaged, or never made, is refused with 1 and does no
- * harm. Do not write a pool's bytes or words by other means. A pool may be copied, as two blocks of memory.
+ * holds one tree of at most S nodes. `yarnhollow_make` turns any two slices of these lengths into an empty pool. A call that
+ * goes by what a pool holds tests the whole pool first, so that one that was damaged, or never made, is refused with 1 and
+ * does no harm. Of a pool that is only filled (make, read, the second pool of split) the lengths are tested and nothing else.
+ * Do not write a pool's bytes or words by other means. A pool may be copied, as two blocks of memory.
  *
  *
  * WHAT A CALL RETURNS
