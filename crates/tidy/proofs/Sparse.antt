@@ -41,10 +41,6 @@ solid-first ws bs c m h =
 pub solid-none : (ws bs : List ℕ) (c m : ℕ) → m ≡ 0 → solid (baresFrom ws bs c m) ≡ []
 solid-none ws bs c m e = ap (λ (k : ℕ). solid (baresFrom ws bs c k)) e ∙ unfold run solid in refl
 
-bare-len : (ws bs : List ℕ) (c : ℕ) → bareAt ws bs c .len ≡ lenOf ws c
-unfolding bareAt
-bare-len ws bs c = refl
-
 -- a node with its children
 pub solid-node : {ws bs : List ℕ} {s b : ℕ} {l : Key} {w : Num} {kids : Forest} {c : ℕ} → Solid ws bs s b l w kids c
     → solid (baresFrom ws bs c (spanOf ws c)) ≡ nodeBare s b l w ∷ baresF (s + suc (length l)) kids
