@@ -2,7 +2,8 @@
 // CHILD_ALLOCATED 4, CHILD_INITIALIZED 8, SIBLING_ALLOCATED 16 and SIBLING_INITIALIZED 32.
 ghost use mathlib.Core.Path.{_≡_};
 ghost use Rattle.tree.specs.Told.{refusal};
-ghost use Rattle.tree.specs.Reader.{judge, flagRules};
+ghost use Prim.Native.Nat.{_<_};
+ghost use Rattle.tree.specs.Reader.{judge, flagRules, hasNumber, hasChild, hasSibling};
 ghost use Rattle.flags.specs.Flags.{pair, flagByte, passes};
 use tree::Level;
 
@@ -23,27 +24,41 @@ pub fn flag_byte(number: bool, child: bool, sibling: bool) -> u8
     both_bits(number, 3) + both_bits(child, 12) + both_bits(sibling, 48)
 }
 
-// Whether a flag byte that was read can stand at a level.
+// 1 where a flag byte says that there is a number, else 0. Counterpart: `Flags::VALUE_INITIALIZED`.
+pub fn has_number(f: u8) -> usize
+    ensures { λ r. ⌜ (r ≡ hasNumber f) × (r < 2) ⌝ }
+{
+    f as usize / 2 % 2
+}
+
+// The same of children. Counterpart: `Flags::CHILD_INITIALIZED`.
+pub fn has_child(f: u8) -> usize
+    ensures { λ r. ⌜ (r ≡ hasChild f) × (r < 2) ⌝ }
+{
+    f as usize / 8 % 2
+}
+
+// The same of a younger sibling. Counterpart: `Flags::SIBLING_INITIALIZED`.
+pub fn has_sibling(f: u8) -> usize
+    ensures { λ r. ⌜ (r ≡ hasSibling f) × (r < 2) ⌝ }
+{
+    f as usize / 32 % 2
+}
+
+// Whether a flag byte that was read can stand at a level. Each pair has both its bits or neither, and no other bit is set,
+// just where the byte is three times its lower bits.
 pub fn flags_sound(f: u8, level: Level) -> bool
     ensures { λ r. ⌜ r ≡ passes (judge (flagRules f (level .0) (refusal 7))) ⌝ }
 {
-    let f = f as usize;
-    if f > 63 {
-        return false;
-    }
-    if f % 2 != f / 2 % 2 {
-        return false;
-    }
-    if f / 4 % 2 != f / 8 % 2 {
-        return false;
-    }
-    if f / 16 % 2 != f / 32 % 2 {
+    let bits = f as usize;
+    let lower = bits % 2 + bits / 4 % 2 * 4 + bits / 16 % 2 * 16;
+    if bits != 3 * lower {
         return false;
     }
     if level.0 != 0 {
         return true;
     }
-    if f / 32 % 2 != 0 {
+    if has_sibling(f) != 0 {
         return false;
     }
     true

@@ -15,18 +15,8 @@ use Rattle.pool.specs.Put.{SlotPut}
 use Rattle.pool.proofs.Stands.{Stands, stands-at}
 use Rattle.pool.proofs.Puts.{stands-keep}
 use Rattle.reader.specs.declared.fill.Cursor.{Cursor}
-use Rattle.reader.specs.Fill.{bytesF, RecordIs, Lies, NodeLies, Room, SlotDue, recRead, NodeDue, KidsDue, ownRec, NodeIn, KidsIn, NodeFilled, KidsFilled}
+use Rattle.reader.specs.Fill.{bytesF, RecordIs, Lies, NodeLies, Room, SlotDue, recRead, RecordDue, Behind, NodeDue, KidsDue, ownRec, NodeIn, KidsIn, NodeFilled, KidsFilled}
 use Rattle.reader.proofs.Lying.{lies-at}
-
--- c is the cursor behind the record at `from`.
-pub record Behind (s : List ℕ) (from c : Cursor) : Type 0 where
-  pub at : c .at ≡ from .at + 4 + getD s (from .at + 1) 0
-  pub slot : c .slot .0 ≡ from .slot .0 + 1
-  pub next : c .next ≡ from .next + hasNumber (getD s (from .at) 0)
-
-pub behind-is : (s : List ℕ) (from c : Cursor) (m h : ℕ) → m ≡ getD s (from .at + 1) 0 → h ≡ hasNumber (getD s (from .at) 0)
-    → c .at ≡ from .at + 4 + m → c .slot .0 ≡ from .slot .0 + 1 → c .next ≡ from .next + h → Behind s from c
-behind-is s from c m h p q at slot next = record { at = omega arith; slot = slot; next = omega arith }
 
 -- A slot that was written from what the code read of the record
 pub slot-read : (s ns ws bs vs cs : List ℕ) (path : ℕ) (from : Cursor) (span len has v : ℕ) (l : List ℕ) → len ≡ getD s (from .at + 1) 0
@@ -168,6 +158,41 @@ node-deep s ns ws bs us ds vs cs path under from c r b e u q p =
               stands-keep us ds vs cs (path + length label) f (from .slot .0 + 1) (λ k y z. p .others k (λ h. omega arith))
               (stands-at us ds (path + length label) f (b .slot) (subst (λ (y : ℕ). Stands us ds y f (c .slot .0)) deep (i .stands)));
         }
+
+-- What is below a record stands, and `end` is the cursor behind it; nothing was written for a record without children.
+pub data Below (s ns ws bs vs cs : List ℕ) (path : ℕ) (from end : Cursor) : Type 0 where
+  bare : hasChild (getD s (from .at) 0) ≡ 0 → vs ≡ ws → cs ≡ bs → Behind s from end → Below s ns ws bs vs cs path from end
+  peopled : (hasChild (getD s (from .at) 0) ≡ 0 → ⊥) → (c : Cursor) → Behind s from c
+      → KidsFilled s ns ws bs vs cs (path + getD s (from .at + 1) 0) c end → Below s ns ws bs vs cs path from end
+
+-- how far that goes
+pub record Reach (ws bs vs cs : List ℕ) (from end : Cursor) : Type 0 where
+  pub forth : from .slot .0 < end .slot .0
+  pub few : end .slot .0 ≤ 16384
+  pub words : length vs ≡ length ws
+  pub labels : length cs ≡ length bs
+
+module _ (s ns ws bs vs cs : List ℕ) (path : ℕ) (from end : Cursor) (d : NodeDue s ns ws bs path from) where
+  pub reach : Below s ns ws bs vs cs path from end → Reach ws bs vs cs from end
+  reach (bare e v w b) =
+      let r = d .room in
+      record { forth = omega (arith, b .slot); few = omega (arith, b .slot, r .few); words = ap length v; labels = ap length w }
+  reach (peopled e c b q) =
+      let g = kids-span s ns ws bs path from d vs cs c end _ b e q in
+      record { forth = g .0; few = g .1; words = q .kept .words; labels = q .kept .labels }
+
+  pub below-due : Below s ns ws bs vs cs path from end → SlotDue s ns vs cs path from (end .slot .0 - from .slot .0)
+  below-due b =
+      let r = reach b in
+      slot-due s ns ws bs path from d vs cs (end .slot .0 - from .slot .0) (r .words) (r .labels) (omega arith)
+
+-- the node itself, behind what is below it
+pub below-filled : (s ns ws bs vs cs us ds : List ℕ) (path : ℕ) (from end : Cursor) → Below s ns ws bs vs cs path from end
+    → SlotPut vs cs us ds (from .slot .0) (recRead s ns path from (end .slot .0 - from .slot .0)) → NodeFilled s ns ws bs us ds path from end
+below-filled s ns ws bs vs cs us ds path from end (bare e v w b) p =
+    let one : end .slot .0 - from .slot .0 ≡ 1 = omega (arith, b .slot) in
+    node-leaf s ns ws bs us ds path from end b e (rw (one, v, w) at p)
+below-filled s ns ws bs vs cs us ds path from end (peopled e c b q) p = node-deep s ns ws bs vs cs us ds path _ from c end b e refl q p
 
 -- The last of the siblings
 pub stop-last : (s ns ws bs vs cs : List ℕ) (path : ℕ) (from r : Cursor) → NodeFilled s ns ws bs vs cs path from r

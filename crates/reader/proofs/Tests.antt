@@ -6,10 +6,11 @@ use Prim.Native.Nat.{ℕ, zero, suc, _+_, _≤_}
 use native.Mathlib.Omega.{arith}
 use lib.ListN.{length, getD, take}
 use Rattle.tree.specs.Told.{Told, refusal, refusalAt}
-use Rattle.tree.specs.Reader.{Rule, atMost, equal, broken, sound, judge, flagRules}
+use Rattle.tree.specs.Reader.{Rule, atMost, equal, broken, sound, judge, below, flagRules}
 use Rattle.tree.proofs.Judge.{never, Holds, Fails, tells, All, judge-on, judge-off, passed, passes, breaks, judged}
 use Rattle.label.proofs.Moves.{by-lt, by-eq}
 use Rattle.flags.specs.Flags.{passes as isSound}
+use Rattle.flags.proofs.Judged.{below-other}
 use Rattle.reader.specs.Check.{headRules, bodyRules, countRules}
 
 -- A rule holds or fails.
@@ -68,6 +69,10 @@ all-sound rs e = elim (judged rs) [ passes a j ↦ a | breaks x j h ↦ never (c
 
 pub not-sound : (rs : List Rule) → isSound (judge rs) ≡ false → All rs → ⊥
 not-sound rs e a = never (cc (rw (passed rs a) at e))
+
+-- A record that is not the root's
+pub below-is : (level : ℕ) → 1 ≤ level → below level ≡ 1
+below-is level h = below-other level (λ e. omega arith)
 
 -- The tests of one record
 module _ (s : List ℕ) (left level least path at : ℕ) where

@@ -10,11 +10,10 @@ use Rattle.tree.specs.Reader.{Rule, atMost, Tested, broken, sound, judge, lastR
 use Rattle.tree.specs.declared.Loaded.{Loaded}
 use Rattle.tree.proofs.Judge.{never, Fails, tells, All, passed}
 use Rattle.reader.specs.declared.Mark.{Mark}
-use Rattle.reader.specs.declared.Part.{Part}
 use Rattle.reader.specs.declared.Checked.{Checked}
-use Rattle.reader.specs.Check.{wayOf, nodeWay, NodeChecked, Count, refuses, holds, verdictCount, CheckedAs}
+use Rattle.reader.specs.Check.{wayOf, nodeWay, start, RootChecked, Count, refuses, holds, verdictCount, CheckedAs}
 use Rattle.reader.proofs.Tests.{nth, broken-at}
-use Rattle.reader.proofs.Walk.{ended}
+use Rattle.reader.proofs.Walk.{went, stopped, ended}
 
 -- The tests after the last node, counted
 abbrev pub countLast : (s : List ℕ) (m : Mark) (slots : ℕ) → List Rule
@@ -24,9 +23,6 @@ countLast s m slots =
 unfoldable pub byTest : ℕ → Tested → Count
 byTest k (broken x) = refuses x
 byTest k sound = holds k
-
-abbrev pub start : ℕ → Mark
-start numbers = record { at = 0; left = numbers; nodes = 0 }
 
 module _ (s : List ℕ) (slots : ℕ) where
   abbrev root : List ℕ → Read Tree
@@ -45,27 +41,27 @@ module _ (s : List ℕ) (slots : ℕ) where
       by (broken x) = unfold verdictCount byTest in refl
       by sound = unfold verdictCount byTest in refl
 
-  pub verdict-refused : (numbers : ℕ) (x : Loaded) → NodeChecked s 0 0 0 (start numbers) (Part.Refused x) → CheckedAs s numbers slots (Checked.Refused x)
-  verdict-refused numbers x r ns k = by (root ns) refl (r .is (length s) ns (omega arith) k)
+  pub verdict-refused : (numbers : ℕ) (m : Mark) (x : Loaded) → RootChecked s numbers (stopped m x) → CheckedAs s numbers slots (Checked.Refused x)
+  verdict-refused numbers m x r ns k = by (root ns) refl (r .is (length s) ns (omega arith) k)
     where
-      by : (t : Read Tree) → root ns ≡ t → wayOf (Part.Refused x) ≡ nodeWay 0 t → refuses (loadedTold x) ≡ verdictCount (readT s ns slots)
+      by : (t : Read Tree) → root ns ≡ t → wayOf (stopped m x) ≡ nodeWay 0 t → refuses (loadedTold x) ≡ verdictCount (readT s ns slots)
       by (refused y) e w = unfold nodeWay in cc (refused-is ns e)
       by (gave t a left) e w = unfold nodeWay in never (cc)
 
-  went : (numbers : ℕ) (m : Mark) → NodeChecked s 0 0 0 (start numbers) (Part.Went m) → (ns : List ℕ) → length ns ≡ numbers
+  counted : (numbers : ℕ) (m : Mark) → RootChecked s numbers (went m) → (ns : List ℕ) → length ns ≡ numbers
       → byTest (m .nodes) (judge (countLast s m slots)) ≡ verdictCount (readT s ns slots)
-  went numbers m r ns k =
+  counted numbers m r ns k =
       let g = ended s 0 0 0 (start numbers) m r (length s) ns (omega arith) k in
       let n : nodesT (g .tree) ≡ m .nodes = omega (arith, g .nodes) in
       sym (gave-is ns (g .read) ∙ rw (n, g .left))
 
   -- the tests after the last node as the code makes them
-  module _ (numbers : ℕ) (m : Mark) (r : NodeChecked s 0 0 0 (start numbers) (Part.Went m)) where
+  module _ (numbers : ℕ) (m : Mark) (r : RootChecked s numbers (went m)) where
     pub verdict-broken : (i : ℕ) → All (take i (countLast s m slots)) → Fails (nth i (countLast s m slots)) → (ns : List ℕ) → length ns ≡ numbers
         → refuses (tells (nth i (countLast s m slots))) ≡ verdictCount (readT s ns slots)
     unfolding byTest
-    verdict-broken i h f ns k = ap (byTest (m .nodes)) (broken-at (countLast s m slots) i h f) ∙ went numbers m r ns k
+    verdict-broken i h f ns k = ap (byTest (m .nodes)) (broken-at (countLast s m slots) i h f) ∙ counted numbers m r ns k
 
     pub verdict-ok : All (countLast s m slots) → CheckedAs s numbers slots (Checked.Accepted (m .nodes))
     unfolding byTest
-    verdict-ok h ns k = ap (byTest (m .nodes)) (sym (passed (countLast s m slots) h)) ∙ went numbers m r ns k
+    verdict-ok h ns k = ap (byTest (m .nodes)) (sym (passed (countLast s m slots) h)) ∙ counted numbers m r ns k

@@ -3,7 +3,7 @@ use mathlib.Core.Path.{_≡_, refl, sym, ap, _∙_}
 use mathlib.Core.List.{List, []}
 use Prim.Native.Nat.{ℕ, _≤_}
 use native.Mathlib.Omega.{arith}
-use lib.ListN.{length, set, length-set}
+use lib.ListN.{length, getD, set, length-set}
 use lib.Seq.{getD-set-same}
 use Rattle.tree.specs.Key.{Bytes, keyMax}
 use Rattle.tree.specs.Tree.{nodesT}
@@ -15,32 +15,24 @@ use Rattle.pool.specs.Records.{recAt}
 use Rattle.pool.specs.Rule.{Lengths}
 use Rattle.pool.specs.Post.{Meets, Leaves}
 use Rattle.pool.proofs.Decode.{lengths-right, slots-of}
-use Rattle.pool.proofs.Stands.{Holds, nodes-are, stands-at}
+use Rattle.pool.proofs.Stands.{Holds, nodes-are}
 use Rattle.pool.proofs.Held.{holds-tree}
 use Rattle.pool.proofs.Puts.{nodes-put, stands-keep}
 use Rattle.reader.specs.declared.fill.Cursor.{Cursor}
-use Rattle.reader.specs.Fill.{NodeLies, NodeDue, NodeIn, NodeFilled, FillDue}
+use Rattle.reader.specs.Fill.{NodeLies, NodeDue, front, NodeIn, NodeFilled, FillDue}
 use Rattle.reader.proofs.Lying.{tree-lies}
 
--- The cursor at the image's start
-pub record Start (c : Cursor) : Type 0 where
-  pub at : c .at ≡ 0
-  pub slot : c .slot .0 ≡ 0
-  pub next : c .next ≡ 0
-
-module _ (s ns ws bs : List ℕ) (by : Bytes s) (d : FillDue s ns ws bs) (c : Cursor) (i : Start c) where
+module _ (s ns ws bs : List ℕ) (by : Bytes s) (d : FillDue s ns ws bs) where
   loads : Loads s ns (d .slots) (d .tree)
   loads = read-accepts s by ns (d .slots) (d .tree) (d .accepted)
 
   lengths : Lengths ws bs (d .slots)
   lengths = lengths-right ws bs (d .slots) (d .sized)
 
-  root-lies : NodeLies s ns [] (d .tree .num) (d .tree .kids) (c .at) (c .next)
-  root-lies =
-      let t = d .tree in
-      rw (i .at, i .next) (tree-lies t s ns (loads .image) (loads .numbers))
+  root-lies : NodeLies s ns [] (d .tree .num) (d .tree .kids) 0 0
+  root-lies = tree-lies (d .tree) s ns (loads .image) (loads .numbers)
 
-  pub root-due : NodeDue s ns ws bs 0 c
+  pub root-due : NodeDue s ns ws bs 0 front
   unfolding keyMax
   root-due =
       let l = lengths in
@@ -53,16 +45,19 @@ module _ (s ns ws bs : List ℕ) (by : Bytes s) (d : FillDue s ns ws bs) (c : Cu
         lies = root-lies;
         short = omega arith;
         wf = loads .wf;
-        room = omega (arith, i .slot);
+        room = omega arith;
       }
 
-  module _ (vs cs : List ℕ) (r : Cursor) (p : NodeFilled s ns ws bs vs cs 0 c r) where
-    root-in : NodeIn vs cs 0 [] (d .tree .num) (d .tree .kids) c r
+  pub root-bare : getD s 1 0 ≡ 0
+  root-bare = root-lies .own .len
+
+  module _ (vs cs : List ℕ) (r : Cursor) (p : NodeFilled s ns ws bs vs cs 0 front r) where
+    root-in : NodeIn vs cs 0 [] (d .tree .num) (d .tree .kids) front r
     root-in = p .filled [] (d .tree .num) (d .tree .kids) root-lies
 
     -- the cursor behind the last record counts the nodes
     counts : r .slot .0 ≡ nodesT (d .tree)
-    counts = omega (arith, root-in .slot, i .slot, nodes-are (d .tree))
+    counts = omega (arith, root-in .slot, nodes-are (d .tree))
 
     pub few : (r .slot .0 ≤ 16384) × (14 ≤ length vs)
     few = omega (arith, counts, loads .fits, lengths, p .kept .words)
@@ -90,10 +85,10 @@ module _ (s ns ws bs : List ℕ) (by : Bytes s) (d : FillDue s ns ws bs) (c : Cu
             lengths = same;
             nodes = rw e (getD-set-same vs 0 (r .slot .0) 0 (omega (arith, few)) ∙ counts);
             room = loads .fits;
-            root = slot-same 0 ∙ (rw (i .slot) at (root-in .own));
+            root = slot-same 0 ∙ root-in .own;
             kids =
                 stands-keep vs cs us cs 0 (t .kids) 1 (λ j x y. slot-same j)
-                (stands-at vs cs 0 (t .kids) (omega (arith, i .slot)) (root-in .below));
+                (root-in .below);
             wf = loads .wf;
           }
 

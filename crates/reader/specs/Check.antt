@@ -1,6 +1,7 @@
 -- What the check answers, beside the reader of tree/specs/Reader.antt: that one gives trees and lists of numbers, the code
 -- counts. s is the whole image, `at` an offset into it, path the length of the labels above.
 use mathlib.Core.Path.{_≡_}
+use mathlib.Core.Bool.{Bool, true, false}
 use mathlib.Core.List.{List, [], _∷_, _++_}
 use Prim.Native.Nat.{ℕ, suc, _+_, _*_, _≤_}
 use lib.ListN.{length, getD}
@@ -9,6 +10,7 @@ use Rattle.tree.specs.Tree.{Forest, Tree, nodesF, nodesT}
 use Rattle.tree.specs.Told.{Told, done, refusal, refusalAt, loadedTold}
 use Rattle.tree.specs.Reader.{Rule, atMost, equal, Tested, broken, sound, hasNumber, hasChild, below, flagRules}
 use Rattle.tree.specs.Reader.{Read, refused, gave, readNode, readKids, Verdict, refusedWith, ok, readT}
+use Rattle.tree.specs.declared.Loaded.{Loaded}
 use Rattle.reader.specs.declared.Found.{Found}
 use Rattle.reader.specs.declared.Mark.{Mark}
 use Rattle.reader.specs.declared.Part.{Part}
@@ -47,9 +49,15 @@ pub data Way : Type 0 where
   off : Told → Way
   on : (at left nodes : ℕ) → Way
 
+abbrev pub wayBy : Mark → Loaded → Bool → Way
+wayBy m x true = on (m .at) (m .left) (m .nodes)
+wayBy m x false = off (loadedTold x)
+
 abbrev pub wayOf : Part → Way
-wayOf (Part.Refused x) = off (loadedTold x)
-wayOf (Part.Went m) = on (m .at) (m .left) (m .nodes)
+wayOf r = wayBy (r .to) (r .fault) (r .sound)
+
+abbrev pub wentTo : (at left nodes : ℕ) → Part
+wentTo at left nodes = record { to = record { at = at; left = left; nodes = nodes }; sound = true; fault = Loaded.Done }
 
 -- The same of what the reader gives, after k nodes
 unfoldable pub kidsWay : ℕ → Read Forest → Way
@@ -61,24 +69,32 @@ nodeWay k (refused x) = off x
 nodeWay k (gave t a left) = on a (length left) (k + nodesT t)
 
 -- What the code knows of a part that was read from a mark on
-abbrev pub Within : List ℕ → Mark → Part → Type 0
-Within s from (Part.Refused x) = Unit {0}
-Within s from (Part.Went m) = (from .at + 4 ≤ m .at) × (m .at ≤ length s) × (m .nodes ≤ m .at)
+abbrev pub Within : (s : List ℕ) (level : ℕ) (from to : Mark) → Bool → Type 0
+Within s level from m true = (from .at + 4 + below level ≤ m .at) × (m .at ≤ length s) × (m .nodes ≤ m .at)
+Within s level from m false = Unit {0}
 
 -- The reader's answer, for all numbers of which so many are left, with any fuel that the bytes left ask
 pub record NodeChecked (s : List ℕ) (level least path : ℕ) (from : Mark) (r : Part) : Type 0 where
   pub is : (n : ℕ) (ns : List ℕ) → length s ≤ from .at + suc n → length ns ≡ from .left
       → wayOf r ≡ nodeWay (from .nodes) (readNode (readKids n s) s level least path (from .at) ns)
-  pub within : Within s from r
+  pub within : Within s level from (r .to) (r .sound)
 
 pub record KidsChecked (s : List ℕ) (level least path : ℕ) (from : Mark) (r : Part) : Type 0 where
   pub is : (n : ℕ) (ns : List ℕ) → length s ≤ from .at + n → length ns ≡ from .left
       → wayOf r ≡ kidsWay (from .nodes) (readKids n s level least path (from .at) ns)
-  pub within : Within s from r
+  pub within : Within s level from (r .to) (r .sound)
 
--- Where a part begins; this settles every overflow.
+-- The root's part begins with the image.
+abbrev pub start : ℕ → Mark
+start numbers = record { at = 0; left = numbers; nodes = 0 }
+
+abbrev pub RootChecked : (s : List ℕ) (numbers : ℕ) → Part → Type 0
+RootChecked s numbers r = NodeChecked s 0 0 0 (start numbers) r
+
+-- Where a list of siblings begins, below the root; this settles every overflow.
 pub record Place (s : List ℕ) (level path : ℕ) (from : Mark) : Type 0 where
   pub inside : from .at ≤ length s
+  pub deep : 1 ≤ level
   pub shallow : level ≤ from .at
   pub short : path ≤ 4096
   pub few : from .nodes ≤ from .at

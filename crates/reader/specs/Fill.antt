@@ -70,6 +70,18 @@ recRead s ns path from span =
       label = take (getD s (from .at + 1) 0) (drop (from .at + 4) s);
     }
 
+-- A record that is there, and numbers that can be counted on
+pub record RecordDue (s : List ℕ) (from : Cursor) : Type 0 where
+  pub inside : from .at + 4 + getD s (from .at + 1) 0 ≤ length s
+  pub few : from .slot .0 ≤ 16384
+  pub countable : from .next + 1 < 18446744073709551616
+
+-- c is the cursor behind the record at `from`.
+pub record Behind (s : List ℕ) (from c : Cursor) : Type 0 where
+  pub at : c .at ≡ from .at + 4 + getD s (from .at + 1) 0
+  pub slot : c .slot .0 ≡ from .slot .0 + 1
+  pub next : c .next ≡ from .next + hasNumber (getD s (from .at) 0)
+
 -- A node lies at the cursor, and there is room for it.
 pub record NodeDue (s ns ws bs : List ℕ) (path : ℕ) (from : Cursor) : Type 0 where
   pub label : Key
@@ -79,6 +91,10 @@ pub record NodeDue (s ns ws bs : List ℕ) (path : ℕ) (from : Cursor) : Type 0
   pub short : path + length label ≤ keyMax
   pub wf : Wf (path + length label) kids
   pub room : Room ws bs (from .slot .0 + suc (nodesF kids))
+
+-- the image's first record
+abbrev pub front : Cursor
+front = record { at = 0; slot = record { 0 = 0 }; next = 0 }
 
 -- Siblings lie at the cursor, and there is room for them.
 pub record KidsDue (s ns ws bs : List ℕ) (path : ℕ) (from : Cursor) : Type 0 where

@@ -9,11 +9,11 @@ ghost use Rattle.pool.specs.Layout.{numOf};
 ghost use Rattle.pool.specs.Pool.{slotsOf};
 ghost use Rattle.pool.specs.Put.{SlotPut};
 ghost use Rattle.pool.specs.Post.{Meets};
-ghost use Rattle.reader.specs.Fill.{SlotDue, recRead, NodeDue, NodeFilled, KidsDue, KidsFilled, FillDue};
-use super::has_child;
-use super::has_number;
-use super::has_sibling;
+ghost use Rattle.reader.specs.Fill.{SlotDue, recRead, RecordDue, Behind, NodeDue, front, NodeFilled, KidsDue, KidsFilled, FillDue};
 use super::wide;
+use flags::has_child;
+use flags::has_number;
+use flags::has_sibling;
 use pool::put::Head;
 use pool::put::put_nodes;
 use pool::put::put_slot;
@@ -69,6 +69,19 @@ fn fill_slot(
     put_slot(labels, words, slot, head, &tree[first..last]);
 }
 
+// The cursor behind a record: its first child's, where it has any, else that of the next record.
+fn behind(tree: &[u8], from: Cursor) -> Cursor
+    requires { ⌜ RecordDue (now tree) from ⌝ }
+    ensures { λ r. ⌜ Behind (now (tree .entry)) from r ⌝ }
+{
+    let at = from.at;
+    Cursor {
+        at: at + 4 + wide(tree[at + 1]),
+        slot: Slot(from.slot.0 + 1),
+        next: from.next + has_number(tree[at]),
+    }
+}
+
 // A node with all below it: its children, where it has any, and then its own slot, whose span is known by now. Counterpart:
 // `set_child`.
 fn fill_node(
@@ -83,17 +96,17 @@ fn fill_node(
     ensures { λ r. ⌜ NodeFilled (now (tree .entry)) (now (numbers .entry)) (now (words .entry)) (now (labels .entry)) (now (words .exit)) (now (labels .exit)) path from r ⌝ }
 {
     let at = from.at;
-    let len = wide(tree[at + 1]);
-    let below = Cursor {
-        at: at + 4 + len,
-        slot: Slot(from.slot.0 + 1),
-        next: from.next + has_number(tree[at]),
-    };
-    if has_child(tree[at]) == 0 {
-        fill_slot(labels, words, tree, numbers, path, from, 1);
-        return below;
+    let mut end = behind(tree, from);
+    if has_child(tree[at]) > 0 {
+        let under = path + wide(tree[at + 1]);
+        let last = fill_kids(labels, words, tree, numbers, under, end);
+        // Field by field, as in the check.
+        end = Cursor {
+            at: last.at,
+            slot: Slot(last.slot.0),
+            next: last.next,
+        };
     }
-    let end = fill_kids(labels, words, tree, numbers, path + len, below);
     let span = end.slot.0 - from.slot.0;
     fill_slot(labels, words, tree, numbers, path, from, span);
     end
@@ -115,7 +128,6 @@ fn fill_kids(
     loop {
         let at = c.at;
         let end = fill_node(labels, words, tree, numbers, path, c);
-        // Field by field: copied as a block, the words just written would be waited for (docs/PERFORMANCE.md).
         let next = Cursor {
             at: end.at,
             slot: Slot(end.slot.0),
@@ -128,16 +140,29 @@ fn fill_kids(
     }
 }
 
-// The whole tree, and the count of its nodes.
-pub fn fill_tree(labels: &mut [u8], words: &mut [u32], tree: &[u8], numbers: &[u32])
-    requires { ⌜ FillDue (now tree) (now numbers) (now words) (now labels) ⌝ }
-    ensures { λ _. ⌜ Meets (readCall (slotsOf (now (words .entry)) (now (labels .entry))) (now (tree .entry)) (now (numbers .entry))) (done []) (now (words .entry)) (now (labels .entry)) (now (words .exit)) (now (labels .exit)) ⌝ }
+// The root with all below it.
+fn fill_root(labels: &mut [u8], words: &mut [u32], tree: &[u8], numbers: &[u32]) -> Cursor
+    requires { ⌜ NodeDue (now tree) (now numbers) (now words) (now labels) 0 front × (getD (now tree) 1 0 ≡ 0) ⌝ }
+    ensures { λ r. ⌜ NodeFilled (now (tree .entry)) (now (numbers .entry)) (now (words .entry)) (now (labels .entry)) (now (words .exit)) (now (labels .exit)) 0 front r ⌝ }
 {
     let start = Cursor {
         at: 0,
         slot: Slot(0),
         next: 0,
     };
-    let end = fill_node(labels, words, tree, numbers, 0, start);
+    let mut end = behind(tree, start);
+    if has_child(tree[0]) > 0 {
+        end = fill_kids(labels, words, tree, numbers, 0, end);
+    }
+    fill_slot(labels, words, tree, numbers, 0, start, end.slot.0);
+    end
+}
+
+// The whole tree, and the count of its nodes.
+pub fn fill_tree(labels: &mut [u8], words: &mut [u32], tree: &[u8], numbers: &[u32])
+    requires { ⌜ FillDue (now tree) (now numbers) (now words) (now labels) ⌝ }
+    ensures { λ _. ⌜ Meets (readCall (slotsOf (now (words .entry)) (now (labels .entry))) (now (tree .entry)) (now (numbers .entry))) (done []) (now (words .entry)) (now (labels .entry)) (now (words .exit)) (now (labels .exit)) ⌝ }
+{
+    let end = fill_root(labels, words, tree, numbers);
     put_nodes(words, end.slot.0 as u32);
 }

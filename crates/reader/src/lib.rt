@@ -3,16 +3,19 @@
 ghost use mathlib.Core.Path.{_≡_};
 ghost use Prim.Native.Nat.{_+_, _≤_, _<_};
 ghost use lib.ListN.{length, getD};
-ghost use Rattle.tree.specs.Reader.{judge, below, hasNumber, hasChild, hasSibling};
+ghost use Rattle.tree.specs.Reader.{judge};
 ghost use Rattle.tree.specs.Told.{loadedTold};
 ghost use Rattle.tree.specs.Calls.{readCall};
 ghost use Rattle.pool.specs.Pool.{slotsOf};
 ghost use Rattle.pool.specs.Post.{Meets};
-ghost use Rattle.reader.specs.Check.{foundOf, headRules, bodyRules, countRules, NodeChecked, KidsChecked, Place, CheckedAs, answerOf};
+ghost use Rattle.reader.specs.Check.{foundOf, headRules, bodyRules, countRules, wentTo, NodeChecked, KidsChecked, Place, RootChecked, CheckedAs, answerOf};
 
 mod fill;
 
 use flags::flags_sound;
+use flags::has_child;
+use flags::has_number;
+use flags::has_sibling;
 use pool::Sized;
 use pool::slots_of;
 use tree::Level;
@@ -31,10 +34,12 @@ struct Mark {
     nodes: usize,
 }
 
-// What checking a node with all below it answers, or a list of siblings.
-enum Part {
-    Went(Mark),
-    Refused(Loaded),
+// What checking a part of the image answers: how far it has come, whether all that it passed is sound, and if not, with what
+// the image is refused.
+struct Part {
+    to: Mark,
+    sound: bool,
+    fault: Loaded,
 }
 
 // What the check of a whole image answers: how many nodes it has, or the refusal.
@@ -50,51 +55,10 @@ fn wide(x: u8) -> usize
     x as usize
 }
 
-// The byte at a place, and 0 behind the end.
-fn byte(s: &[u8], i: usize) -> usize
-    ensures { λ r. ⌜ (r ≡ getD (now (s .entry)) i 0) × (r < 256) ⌝ }
-{
-    if i < s.len() {
-        return wide(s[i]);
-    }
-    0
-}
-
-// 1 where a flag byte says that there is a number, else 0. Counterpart: `Flags::VALUE_INITIALIZED`.
-fn has_number(f: u8) -> usize
-    ensures { λ r. ⌜ (r ≡ hasNumber f) × (r < 2) ⌝ }
-{
-    f as usize / 2 % 2
-}
-
-// The same of children. Counterpart: `Flags::CHILD_INITIALIZED`.
-fn has_child(f: u8) -> usize
-    ensures { λ r. ⌜ (r ≡ hasChild f) × (r < 2) ⌝ }
-{
-    f as usize / 8 % 2
-}
-
-// The same of a younger sibling. Counterpart: `Flags::SIBLING_INITIALIZED`.
-fn has_sibling(f: u8) -> usize
-    ensures { λ r. ⌜ (r ≡ hasSibling f) × (r < 2) ⌝ }
-{
-    f as usize / 32 % 2
-}
-
-// 0 for the root's level and 1 for every other.
-fn rank(level: Level) -> usize
-    ensures { λ r. ⌜ (r ≡ below (level .0)) × (r < 2) ⌝ }
-{
-    if level.0 == 0 {
-        return 0;
-    }
-    1
-}
-
-// The tests of a record's first four bytes, up to the label's presence. A length is not believed before the bytes that
-// are left have been counted. Counterpart: the two "unexpected EOS" tests; the Rust makes no other here.
+// The tests of a record's first four bytes, up to the label's presence, below the root. A length is not believed before the
+// bytes that are left have been counted. Counterpart: the two "unexpected EOS" tests; the Rust makes no other here.
 fn test_head(tree: &[u8], level: Level, at: usize) -> Found
-    requires { ⌜ at ≤ length (now tree) ⌝ }
+    requires { ⌜ (at ≤ length (now tree)) × (1 ≤ level .0) ⌝ }
     ensures { λ r. ⌜ foundOf r ≡ judge (headRules (now (tree .entry)) (level .0) at) ⌝ }
 {
     let room = tree.len() - at;
@@ -104,18 +68,14 @@ fn test_head(tree: &[u8], level: Level, at: usize) -> Found
     if !flags_sound(tree[at], level) {
         return Found::Broken(Loaded::FlagByte(at));
     }
-    if 256 * byte(tree, at + 2) + byte(tree, at + 3) != level.0 {
+    if 256 * wide(tree[at + 2]) + wide(tree[at + 3]) != level.0 {
         return Found::Broken(Loaded::WrongLevel(at));
     }
-    let m = byte(tree, at + 1);
-    let one = rank(level);
-    if m < one {
+    let len = wide(tree[at + 1]);
+    if len < 1 {
         return Found::Broken(Loaded::LabelLength(at));
     }
-    if m > 255 * one {
-        return Found::Broken(Loaded::LabelLength(at));
-    }
-    if room - 4 < m {
+    if room - 4 < len {
         return Found::Broken(Loaded::CutShort(at));
     }
     Found::Sound
@@ -124,18 +84,18 @@ fn test_head(tree: &[u8], level: Level, at: usize) -> Found
 // The tests of what the record says: sibling order, path, idle node, number due. Where a first byte is at least `least`,
 // it is above its elder sibling's.
 fn test_body(tree: &[u8], level: Level, least: usize, path: usize, from: Mark) -> Found
-    requires { ⌜ (from .at + 4 ≤ length (now tree)) × (path ≤ 4096) ⌝ }
+    requires { ⌜ (from .at + 4 < length (now tree)) × (path ≤ 4096) × (1 ≤ level .0) ⌝ }
     ensures { λ r. ⌜ foundOf r ≡ judge (bodyRules (now (tree .entry)) (from .left) (level .0) least path (from .at)) ⌝ }
 {
     let at = from.at;
-    if byte(tree, at + 4) < least {
+    if wide(tree[at + 4]) < least {
         return Found::Broken(Loaded::SiblingOrder(at));
     }
-    if path + byte(tree, at + 1) > 4096 {
+    if path + wide(tree[at + 1]) > 4096 {
         return Found::Broken(Loaded::PathTooLong);
     }
     let has = has_number(tree[at]);
-    if has + has_child(tree[at]) < rank(level) {
+    if has + has_child(tree[at]) < 1 {
         return Found::Broken(Loaded::IdleNode(at));
     }
     if from.left < has {
@@ -144,9 +104,9 @@ fn test_body(tree: &[u8], level: Level, least: usize, path: usize, from: Mark) -
     Found::Sound
 }
 
-// The tests of one record, in document 01's order.
+// The tests of one record below the root, in document 01's order.
 fn test_record(tree: &[u8], level: Level, least: usize, path: usize, from: Mark) -> Found
-    requires { ⌜ (from .at ≤ length (now tree)) × (path ≤ 4096) ⌝ }
+    requires { ⌜ (from .at ≤ length (now tree)) × (path ≤ 4096) × (1 ≤ level .0) ⌝ }
     ensures { λ r. ⌜ foundOf r ≡ judge (countRules (now (tree .entry)) (from .left) (level .0) least path (from .at)) ⌝ }
 {
     let head = test_head(tree, level, from.at);
@@ -156,29 +116,49 @@ fn test_record(tree: &[u8], level: Level, least: usize, path: usize, from: Mark)
     }
 }
 
+// A sound part that ends there.
+fn went(at: usize, left: usize, nodes: usize) -> Part
+    ensures { λ r. ⌜ r ≡ wentTo at left nodes ⌝ }
+{
+    Part {
+        to: Mark {
+            at: at,
+            left: left,
+            nodes: nodes,
+        },
+        sound: true,
+        fault: Loaded::Done,
+    }
+}
+
 // A node with all below it: its record, and behind it its children, where it says that it has any. Counterpart: the part of
 // the loop that ends in `set_child`; its stack is the cycle of calls here.
 fn check_node(tree: &[u8], level: Level, least: usize, path: usize, from: Mark) -> Part
     requires { ⌜ Place (now tree) (level .0) path from ⌝ }
     ensures { λ r. ⌜ NodeChecked (now (tree .entry)) (level .0) least path from r ⌝ }
 {
-    let t = test_record(tree, level, least, path, from);
-    match t {
-        Found::Broken(x) => Part::Refused(x),
-        Found::Sound => {
-            let at = from.at;
-            let m = wide(tree[at + 1]);
-            let next = Mark {
-                at: at + 4 + m,
-                left: from.left - has_number(tree[at]),
-                nodes: from.nodes + 1,
-            };
-            if has_child(tree[at]) == 0 {
-                return Part::Went(next);
-            }
-            check_kids(tree, Level(level.0 + 1), path + m, next)
-        }
+    let found = test_record(tree, level, least, path, from);
+    if let Found::Broken(x) = found {
+        return Part {
+            to: from,
+            sound: false,
+            fault: x,
+        };
     }
+    let at = from.at;
+    let len = wide(tree[at + 1]);
+    let end = at + 4 + len;
+    let left = from.left - has_number(tree[at]);
+    let nodes = from.nodes + 1;
+    if has_child(tree[at]) == 0 {
+        return went(end, left, nodes);
+    }
+    let first = Mark {
+        at: end,
+        left: left,
+        nodes: nodes,
+    };
+    check_kids(tree, Level(level.0 + 1), path + len, first)
 }
 
 // A list of siblings: a node, and behind it the next sibling, where it says that it has one. Counterpart: the part that ends
@@ -190,51 +170,100 @@ fn check_kids(tree: &[u8], level: Level, path: usize, from: Mark) -> Part
     let mut least = 0;
     let mut m = from;
     loop {
-        let p = check_node(tree, level, least, path, m);
-        match p {
-            Part::Refused(x) => return Part::Refused(x),
-            Part::Went(next) => {
-                let at = m.at;
-                if has_sibling(tree[at]) == 0 {
-                    return Part::Went(next);
-                }
-                least = byte(tree, at + 4) + 1;
-                // Field by field, as in the fill.
-                m = Mark {
-                    at: next.at,
-                    left: next.left,
-                    nodes: next.nodes,
-                };
-            }
+        let at = m.at;
+        let node = check_node(tree, level, least, path, m);
+        if !node.sound {
+            let fault = node.fault;
+            return Part {
+                to: m,
+                sound: false,
+                fault: fault,
+            };
         }
+        // Field by field here: copied as a block, the words just written would be waited for (docs/PERFORMANCE.md).
+        let next = Mark {
+            at: node.to.at,
+            left: node.to.left,
+            nodes: node.to.nodes,
+        };
+        if has_sibling(tree[at]) == 0 {
+            return went(next.at, next.left, next.nodes);
+        }
+        least = wide(tree[at + 4]) + 1;
+        m = next;
     }
+}
+
+// The tests of the root's record: its level is 0, it has no label and no sibling.
+fn test_root(tree: &[u8], numbers: usize) -> Found
+    ensures { λ r. ⌜ foundOf r ≡ judge (countRules (now (tree .entry)) numbers 0 0 0 0) ⌝ }
+{
+    if tree.len() < 4 {
+        return Found::Broken(Loaded::CutShort(0));
+    }
+    if !flags_sound(tree[0], Level(0)) {
+        return Found::Broken(Loaded::FlagByte(0));
+    }
+    if 256 * wide(tree[2]) + wide(tree[3]) != 0 {
+        return Found::Broken(Loaded::WrongLevel(0));
+    }
+    if tree[1] > 0 {
+        return Found::Broken(Loaded::LabelLength(0));
+    }
+    if numbers < has_number(tree[0]) {
+        return Found::Broken(Loaded::NumberCount(0));
+    }
+    Found::Sound
+}
+
+// The root with all below it.
+fn check_root(tree: &[u8], numbers: usize) -> Part
+    ensures { λ r. ⌜ RootChecked (now (tree .entry)) numbers r ⌝ }
+{
+    let found = test_root(tree, numbers);
+    if let Found::Broken(x) = found {
+        return Part {
+            to: Mark {
+                at: 0,
+                left: numbers,
+                nodes: 0,
+            },
+            sound: false,
+            fault: x,
+        };
+    }
+    let left = numbers - has_number(tree[0]);
+    if has_child(tree[0]) == 0 {
+        return went(4, left, 1);
+    }
+    let first = Mark {
+        at: 4,
+        left: left,
+        nodes: 1,
+    };
+    check_kids(tree, Level(1), 0, first)
 }
 
 // The check of a whole image with so many numbers, for a pool of so many slots.
 pub fn check(tree: &[u8], numbers: usize, slots: usize) -> Checked
     ensures { λ r. ⌜ CheckedAs (now (tree .entry)) numbers slots r ⌝ }
 {
-    let start = Mark {
-        at: 0,
-        left: numbers,
-        nodes: 0,
-    };
-    let p = check_node(tree, Level(0), 0, 0, start);
-    match p {
-        Part::Refused(x) => Checked::Refused(x),
-        Part::Went(m) => {
-            if m.at < tree.len() {
-                return Checked::Refused(Loaded::BytesLeft(m.at));
-            }
-            if m.left > 0 {
-                return Checked::Refused(Loaded::NumberCount(tree.len()));
-            }
-            if m.nodes > slots {
-                return Checked::Refused(Loaded::NoRoom);
-            }
-            Checked::Accepted(m.nodes)
-        }
+    let root = check_root(tree, numbers);
+    if !root.sound {
+        let fault = root.fault;
+        return Checked::Refused(fault);
     }
+    let end = root.to;
+    if end.at < tree.len() {
+        return Checked::Refused(Loaded::BytesLeft(end.at));
+    }
+    if end.left > 0 {
+        return Checked::Refused(Loaded::NumberCount(tree.len()));
+    }
+    if end.nodes > slots {
+        return Checked::Refused(Loaded::NoRoom);
+    }
+    Checked::Accepted(end.nodes)
 }
 
 // What a verdict is answered with: an image that was accepted has been read.

@@ -1,30 +1,58 @@
 -- `flags::flags_sound` meets its contract. Assumes nothing.
 use native.Mathlib.Omega.{arith}
 use Rattle.flags.proofs.Judged.{all-pass, one-fails, below-root, below-other}
+use Rattle.flags.proofs.Pairs.{paired, unpaired}
+use borrow.Author.Needs.{needs}
 use Rattle.flags.proofs.flags_sound.Statement.{statement}
 use Rattle.flags.proofs.flags_sound.Tie as tie
+use Rattle.flags.proofs.flags_sound.Reads as reads
+use Rattle.flags.proofs.flags_sound.Lts as lts
+
+mul-lower : tie.Need-mul-lower
+mul-lower c = search needs
+
+add-lower : tie.Need-add-lower
+add-lower c = search needs
+
+mul-lower-2 : tie.Need-mul-lower-2
+mul-lower-2 c = search needs
+
+add-lower-2 : tie.Need-add-lower-2
+add-lower-2 c = search needs
+
+mul-if1 : tie.Need-mul-if1
+mul-if1 c = search needs
 
 returns : tie.Need-returns
-returns c = one-fails _ (λ h. omega arith)
+returns c = one-fails _ (λ h. c .if1 .taken (unpaired _ (omega (arith, h))))
 
 returns-2 : tie.Need-returns-2
-returns-2 c = one-fails _ (λ h. omega arith)
+returns-2 c =
+    let p = paired _ (c .before .before .if1 .left) in
+    all-pass _ (omega (arith, p, below-other (c .before .before .before .args .level .0) (c .if2 .taken)))
+
+has-sibling-requires : tie.Need-has-sibling-requires
+has-sibling-requires c κs = search needs
 
 returns-3 : tie.Need-returns-3
-returns-3 c = one-fails _ (λ h. omega arith)
+returns-3 c = one-fails _ (λ h. c .if3 .taken (omega (arith, h, below-root (c .before .before .before .before .before .args .level .0) (c .before .before .if2 .left))))
 
 returns-4 : tie.Need-returns-4
-returns-4 c = one-fails _ (λ h. omega arith)
-
-returns-5 : tie.Need-returns-5
-returns-5 c = all-pass _ (omega (arith, below-other (c .before .before .before .before .before .before .args .level .0) (c .if5 .taken)))
-
-returns-6 : tie.Need-returns-6
-returns-6 c = one-fails _ (λ h. c .if6 .taken (omega (arith, below-root (c .before .before .before .before .before .before .before .args .level .0) (c .before .if5 .left))))
-
-returns-7 : tie.Need-returns-7
-returns-7 c = all-pass _ (omega (arith, below-root (c .before .before .before .before .before .before .before .args .level .0) (c .before .if5 .left)))
+returns-4 c =
+    let p = paired _ (c .before .before .before .before .if1 .left) in
+    all-pass _ (omega (arith, p, below-root (c .before .before .before .before .before .args .level .0) (c .before .before .if2 .left)))
 
 pub flags-sound-spec : {M : Type 1} → statement M
 flags-sound-spec =
-    tie.close (tie.spec returns returns-2 returns-3 returns-4 returns-5 returns-6 returns-7)
+    tie.close
+    (tie.spec
+    mul-lower
+    add-lower
+    mul-lower-2
+    add-lower-2
+    mul-if1
+    returns
+    returns-2
+    has-sibling-requires
+    returns-3
+    returns-4)

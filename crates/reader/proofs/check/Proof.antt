@@ -1,43 +1,37 @@
 -- `reader::check` meets its contract: the root's part, and then the tests after the last node. Assumes nothing.
+use borrow.Author.Tests.{not-true, not-false}
 use native.Mathlib.Omega.{arith}
+use Rattle.reader.specs.Check.{start, RootChecked}
+use Rattle.reader.proofs.Walk.{went, node-sound, node-fault}
 use Rattle.reader.proofs.Verdicts.{verdict-refused, verdict-broken, verdict-ok}
 use borrow.Author.Needs.{needs}
 use Rattle.reader.proofs.check.Statement.{statement}
 use Rattle.reader.proofs.check.Tie as tie
+use Rattle.reader.proofs.check.Reads as reads
+use Rattle.reader.proofs.check.Lts as lts
 
-check-node-requires : tie.Need-check-node-requires
-check-node-requires c κs = search needs
+-- a root that the check went through
+passed : (c : tie.Else1) → RootChecked (c .before .before .before .before .args .tree .now) (c .before .before .before .before .args .numbers) (went (c .before .before .check-root .result .to))
+passed c = node-sound _ _ _ _ _ _ (not-false _ (c .if1 .left)) (c .before .before .check-root .ensures)
 
-enum-known-p : tie.Need-enum-known-p
-enum-known-p c = search needs
-
-enum-known-p-2 : tie.Need-enum-known-p-2
-enum-known-p-2 c = search needs
+check-root-requires : tie.Need-check-root-requires
+check-root-requires c κs = search needs
 
 returns : tie.Need-returns
-returns c = verdict-broken _ _ _ _ (rw (c .before .before .before .p2 .given .1) at (c .before .before .before .before .before .check-node .ensures)) 0 tt (omega arith)
+returns c = verdict-refused _ _ _ _ _ (node-fault _ _ _ _ _ _ (start (c .before .before .before .before .args .numbers)) (not-true _ (c .if1 .taken)) (c .before .before .check-root .ensures))
 
 returns-2 : tie.Need-returns-2
-returns-2 c = verdict-broken _ _ _ _ (rw (c .before .before .before .before .before .p2 .given .1) at (c .before .before .before .before .before .before .before .check-node .ensures)) 1 (omega arith) (omega arith)
+returns-2 c = verdict-broken _ _ _ _ (passed (c .before .before .before)) 0 tt (omega arith)
 
 returns-3 : tie.Need-returns-3
-returns-3 c = verdict-broken _ _ _ _ (rw (c .before .before .before .before .before .before .before .p2 .given .1) at (c .before .before .before .before .before .before .before .before .before .check-node .ensures)) 2 (omega arith) (omega arith)
+returns-3 c = verdict-broken _ _ _ _ (passed (c .before .before .before .before .before)) 1 (omega arith) (omega arith)
 
 returns-4 : tie.Need-returns-4
-returns-4 c = verdict-refused _ _ _ _ (rw (c .before .p .given .1) at (c .before .before .before .check-node .ensures))
+returns-4 c = verdict-broken _ _ _ _ (passed (c .before .before .before .before .before .before .before)) 2 (omega arith) (omega arith)
 
 returns-5 : tie.Need-returns-5
-returns-5 c = verdict-ok _ _ _ _ (rw (c .before .before .before .before .before .before .before .p2 .given .1) at (c .before .before .before .before .before .before .before .before .before .check-node .ensures)) (omega arith)
+returns-5 c = verdict-ok _ _ _ _ (passed (c .before .before .before .before .before .before .before)) (omega arith)
 
 pub check-spec : {M : Type 1} → statement M
 check-spec =
-    tie.close
-    (tie.spec
-    check-node-requires
-    enum-known-p
-    enum-known-p-2
-    returns
-    returns-2
-    returns-3
-    returns-4
-    returns-5)
+    tie.close (tie.spec check-root-requires returns returns-2 returns-3 returns-4 returns-5)

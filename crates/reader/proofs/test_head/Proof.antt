@@ -7,10 +7,12 @@ use borrow.Author.Tests.{not-true, not-false}
 use Rattle.tree.specs.Reader.{Rule}
 use Rattle.tree.proofs.Judge.{All, passed}
 use Rattle.reader.specs.Check.{headRules}
-use Rattle.reader.proofs.Tests.{snoc, broken-at, all-sound, flags-broken}
+use Rattle.reader.proofs.Tests.{snoc, broken-at, all-sound, below-is, flags-broken}
 use borrow.Author.Needs.{needs}
 use Rattle.reader.proofs.test_head.Statement.{statement}
 use Rattle.reader.proofs.test_head.Tie as tie
+use Rattle.reader.proofs.test_head.Reads as reads
+use Rattle.reader.proofs.test_head.Lts as lts
 
 abbrev table : tie.Start → List Rule
 table c = headRules (c .args .tree .now) (c .args .level .0) (c .args .at)
@@ -19,17 +21,13 @@ table c = headRules (c .args .tree .now) (c .args .level .0) (c .args .at)
 past-flags : (c : tie.Else2) → All (take 6 (table (c .before .before .before .before .before)))
 past-flags c = (omega arith, all-sound _ (sym (c .before .flags-sound .ensures) ∙ not-false _ (c .if2 .left)))
 
-past-level : (c : tie.Else3) → All (take 7 (table (c .before .before .before .before .before .before .before .before .before)))
-past-level c = snoc (table (c .before .before .before .before .before .before .before .before .before)) 6 (past-flags (c .before .before .before .before)) (omega arith)
+past-level : (c : tie.Else3) → All (take 7 (table (c .before .before .before .before .before .before .before .before .before .before .before)))
+past-level c = snoc (table (c .before .before .before .before .before .before .before .before .before .before .before)) 6 (past-flags (c .before .before .before .before .before .before)) (omega arith)
 
-past-least : (c : tie.Else4) → All (take 8 (table (c .before .before .before .before .before .before .before .before .before .before .before .before)))
-past-least c = snoc (table (c .before .before .before .before .before .before .before .before .before .before .before .before)) 7 (past-level (c .before .before .before)) (omega arith)
-
-past-most : (c : tie.Else5) → All (take 9 (table (c .before .before .before .before .before .before .before .before .before .before .before .before .before)))
-past-most c = snoc (table (c .before .before .before .before .before .before .before .before .before .before .before .before .before)) 8 (past-least (c .before)) (omega arith)
-
-past-whole : (c : tie.Else6) → All (table (c .before .before .before .before .before .before .before .before .before .before .before .before .before .before))
-past-whole c = snoc (table (c .before .before .before .before .before .before .before .before .before .before .before .before .before .before)) 9 (past-most (c .before)) (omega arith)
+past-length : (c : tie.Else4) → All (take 9 (table (c .before .before .before .before .before .before .before .before .before .before .before .before .before .before)))
+past-length c =
+    let d = below-is (c .before .before .before .before .before .before .before .before .before .before .before .before .before .before .args .level .0) (omega arith) in
+    snoc (table (c .before .before .before .before .before .before .before .before .before .before .before .before .before .before)) 8 (snoc (table (c .before .before .before .before .before .before .before .before .before .before .before .before .before .before)) 7 (past-level (c .before .before .before)) (omega arith)) (omega arith)
 
 sub-room : tie.Need-sub-room
 sub-room c = search needs
@@ -48,50 +46,52 @@ returns-2 c =
     let a = c .before .before .before .before .before .args in
     flags-broken (a .tree .now) 0 (a .level .0) 0 0 (a .at) (omega arith) (sym (c .before .flags-sound .ensures) ∙ not-true _ (c .if2 .taken))
 
-add-byte : tie.Need-add-byte
-add-byte c = search needs
+add-wide : tie.Need-add-wide
+add-wide c = search needs
 
-byte-requires : tie.Need-byte-requires
-byte-requires c κs = search needs
+shared-slice-read-wide : tie.Need-shared-slice-read-wide
+shared-slice-read-wide c = search needs
+
+wide-requires : tie.Need-wide-requires
+wide-requires c κs = search needs
 
 mul-if3 : tie.Need-mul-if3
 mul-if3 c = search needs
 
-add-byte-2 : tie.Need-add-byte-2
-add-byte-2 c = search needs
+add-wide-2 : tie.Need-add-wide-2
+add-wide-2 c = search needs
 
-byte-requires-2 : tie.Need-byte-requires-2
-byte-requires-2 c κs = search needs
+shared-slice-read-wide-2 : tie.Need-shared-slice-read-wide-2
+shared-slice-read-wide-2 c = search needs
+
+wide-requires-2 : tie.Need-wide-requires-2
+wide-requires-2 c κs = search needs
 
 add-if3 : tie.Need-add-if3
 add-if3 c = search needs
 
 returns-3 : tie.Need-returns-3
-returns-3 c = broken-at _ 6 (past-flags (c .before .before .before .before)) (λ e. c .if3 .taken (omega arith))
+returns-3 c = broken-at _ 6 (past-flags (c .before .before .before .before .before .before)) (λ e. c .if3 .taken (omega arith))
 
-add-byte-3 : tie.Need-add-byte-3
-add-byte-3 c = search needs
+add-wide-3 : tie.Need-add-wide-3
+add-wide-3 c = search needs
 
-byte-requires-3 : tie.Need-byte-requires-3
-byte-requires-3 c κs = search needs
+shared-slice-read-wide-3 : tie.Need-shared-slice-read-wide-3
+shared-slice-read-wide-3 c = search needs
 
-rank-requires : tie.Need-rank-requires
-rank-requires c κs = search needs
+wide-requires-3 : tie.Need-wide-requires-3
+wide-requires-3 c κs = search needs
 
 returns-4 : tie.Need-returns-4
-returns-4 c = broken-at _ 7 (past-level (c .before .before .before)) (omega arith)
-
-mul-if5 : tie.Need-mul-if5
-mul-if5 c = search needs
+returns-4 c =
+    let d = below-is (c .before .before .before .before .before .before .before .before .before .before .before .before .before .before .args .level .0) (omega arith) in
+    broken-at _ 7 (past-level (c .before .before .before)) (omega arith)
 
 returns-5 : tie.Need-returns-5
-returns-5 c = broken-at _ 8 (past-least (c .before)) (omega arith)
+returns-5 c = broken-at _ 9 (past-length (c .before)) (omega arith)
 
 returns-6 : tie.Need-returns-6
-returns-6 c = broken-at _ 9 (past-most (c .before)) (omega arith)
-
-returns-7 : tie.Need-returns-7
-returns-7 c = sym (passed _ (past-whole c))
+returns-6 c = sym (passed _ (snoc (table (c .before .before .before .before .before .before .before .before .before .before .before .before .before .before .before)) 9 (past-length (c .before)) (omega arith)))
 
 pub test-head-spec : {M : Type 1} → statement M
 test-head-spec =
@@ -102,18 +102,18 @@ test-head-spec =
     shared-slice-read-flags-sound
     flags-sound-requires
     returns-2
-    add-byte
-    byte-requires
+    add-wide
+    shared-slice-read-wide
+    wide-requires
     mul-if3
-    add-byte-2
-    byte-requires-2
+    add-wide-2
+    shared-slice-read-wide-2
+    wide-requires-2
     add-if3
     returns-3
-    add-byte-3
-    byte-requires-3
-    rank-requires
+    add-wide-3
+    shared-slice-read-wide-3
+    wide-requires-3
     returns-4
-    mul-if5
     returns-5
-    returns-6
-    returns-7)
+    returns-6)

@@ -1,10 +1,13 @@
 -- `reader::test_record` meets its contract: its tests are those of the head and then those of the body. Assumes nothing.
 use mathlib.Core.Path.{sym, _∙_}
+use native.Mathlib.Omega.{arith}
 use Rattle.tree.proofs.Judge.{all-hold}
-use Rattle.reader.proofs.Tests.{record-past, record-stop}
+use Rattle.reader.proofs.Tests.{below-is, record-past, record-stop}
 use borrow.Author.Needs.{needs}
 use Rattle.reader.proofs.test_record.Statement.{statement}
 use Rattle.reader.proofs.test_record.Tie as tie
+use Rattle.reader.proofs.test_record.Reads as reads
+use Rattle.reader.proofs.test_record.Lts as lts
 
 test-head-requires : tie.Need-test-head-requires
 test-head-requires c κs = search needs
@@ -18,7 +21,8 @@ enum-told c = search needs
 test-body-requires : tie.Need-test-body-requires
 test-body-requires c κs =
     let h = all-hold _ (sym (rw (c .enum-told .given .1) at (c .before .before .test-head .ensures))) in
-    (h .0, c .before .before .before .before .pre .1)
+    let d = below-is (c .before .before .before .before .args .level .0) (omega arith) in
+    omega (arith, h)
 
 returns : tie.Need-returns
 returns c =
