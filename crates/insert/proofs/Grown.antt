@@ -19,10 +19,10 @@ use Rattle.tree.proofs.InsertWf.{insert-wf}
 use Rattle.pool.specs.Layout.{nodesOf}
 use Rattle.pool.specs.Records.{run}
 use Rattle.pool.specs.Pool.{poolTree, slotsOf, slotsIn}
-use Rattle.pool.specs.Rule.{Lengths, PoolRule}
+use Rattle.pool.specs.Rule.{PoolRule}
 use Rattle.pool.specs.Post.{Meets}
 use Rattle.pool.specs.Splice.{Bare, bareAt, baresFrom, baresT, Linked, Settled}
-use Rattle.pool.proofs.Decode.{slots-of}
+use Rattle.pool.proofs.Decode.{slots-of, lengths-stay}
 use Rattle.pool.proofs.Runs.{run-join, run-length, run-ext, append-parts}
 use Rattle.pool.proofs.Stands.{Holds}
 use Rattle.pool.proofs.Answers.{no-rule}
@@ -95,10 +95,6 @@ module _ {ws bs : List ℕ} {t u : Tree} {at was : ℕ} {xs : List Bare} (h : Ho
       let b : baresFrom us cs (length (s .front) + length xs) (length (s .back)) ≡ s .back =
       run-ext (bareAt us cs) (bareAt ws bs) (length (s .front) + length xs) (length (s .front) + length (s .gone)) (length (s .back)) (λ i l. rw (la, lw) (r .back i (omega arith))) ∙ p .third in
       ap (baresFrom us cs 0) nu ∙ three-whole (bareAt us cs) (s .front) xs (s .back) (record { first = f; second = m; third = b }) ∙ sym (s .new)
-
--- The lengths stay.
-lengths-stay : (ws bs vs cs : List ℕ) (slots : ℕ) → length vs ≡ length ws → length cs ≡ length bs → Lengths ws bs slots → Lengths vs cs slots
-lengths-stay ws bs vs cs slots e f l = record { least = l .least; most = l .most; labels = f ∙ l .labels; words = e ∙ l .words }
 
 module _ {ws bs : List ℕ} {t : Tree} (is : poolTree ws bs ≡ some t) (h : Holds ws bs t) (key : Key) (v : ℕ) (bytes : Bytes key) (short : length key ≤ keyMax) where
   -- there is room for so many

@@ -126,6 +126,13 @@ slots-of ws bs slots h =
     let e : slots ≡ slotsIn bs = omega (arith, h .labels) in
     rw (e, slotsOf, passed (lengthRules ws bs (slotsIn bs)) (of-lengths ws bs (slotsIn bs) (rw e at h)))
 
+-- Where both lengths stay, the pool keeps its slots.
+pub lengths-stay : (ws bs vs cs : List ℕ) (slots : ℕ) → length vs ≡ length ws → length cs ≡ length bs → Lengths ws bs slots → Lengths vs cs slots
+lengths-stay ws bs vs cs slots e f l = record { least = l .least; most = l .most; labels = f ∙ l .labels; words = e ∙ l .words }
+
+pub slots-stay : (ws bs vs cs : List ℕ) (slots : ℕ) → length vs ≡ length ws → length cs ≡ length bs → Lengths ws bs slots → slotsOf vs cs ≡ slotsOf ws bs
+slots-stay ws bs vs cs slots e f l = slots-of vs cs slots (lengths-stay ws bs vs cs slots e f l) ∙ sym (slots-of ws bs slots l)
+
 -- `slotsOf` by its answer
 pub data Sized (ws bs : List ℕ) : Type 0 where
   wrong : slotsOf ws bs ≡ none → ((slots : ℕ) → Lengths ws bs slots → ⊥) → Sized ws bs

@@ -19,7 +19,7 @@ use Rattle.pool.specs.Records.{recAt, nodeRec, rootRec}
 use Rattle.pool.specs.Pool.{poolTree, slotsOf}
 use Rattle.pool.specs.Rule.{Lengths}
 use Rattle.pool.specs.Fields.{hasSum, emptied}
-use Rattle.pool.proofs.Decode.{slots-of, Root}
+use Rattle.pool.proofs.Decode.{lengths-stay, slots-stay, Root}
 use Rattle.pool.proofs.Stands.{Stands, Holds, nodes-are}
 use Rattle.pool.proofs.Held.{SlotIs, slot-is-rec, root-is, holds-tree}
 
@@ -87,7 +87,7 @@ emptied-is ws h =
 
 -- They hold the empty tree.
 pub emptied-lengths : (ws bs : List ℕ) (slots : ℕ) → Lengths ws bs slots → Lengths (emptied ws) bs slots
-emptied-lengths ws bs slots l = record { least = l .least; most = l .most; labels = l .labels; words = emptied-length ws ∙ l .words }
+emptied-lengths ws bs slots l = lengths-stay ws bs (emptied ws) bs slots (emptied-length ws) refl l
 
 emptied-root : (vs bs : List ℕ) (slots : ℕ) → Emptied vs → 1 ≤ slots → recAt vs bs 0 ≡ rootRec none 0
 emptied-root vs bs slots e h =
@@ -112,4 +112,4 @@ emptied-tree ws bs slots l =
 
 -- What make and clear leave
 pub emptied-slots : (ws bs : List ℕ) (slots : ℕ) → Lengths ws bs slots → slotsOf (emptied ws) bs ≡ slotsOf ws bs
-emptied-slots ws bs slots l = slots-of (emptied ws) bs slots (emptied-lengths ws bs slots l) ∙ sym (slots-of ws bs slots l)
+emptied-slots ws bs slots l = slots-stay ws bs (emptied ws) bs slots (emptied-length ws) refl l

@@ -20,11 +20,11 @@ use Rattle.tree.proofs.Context.{erase-plug}
 use Rattle.pool.specs.Layout.{nodesOf, startOf, lenOf, spanOf, numAt}
 use Rattle.pool.specs.Records.{nodeRec, rootRec}
 use Rattle.pool.specs.Pool.{poolTree, slotsOf}
-use Rattle.pool.specs.Rule.{Lengths, PoolRule}
+use Rattle.pool.specs.Rule.{PoolRule}
 use Rattle.pool.specs.Post.{Meets}
 use Rattle.pool.specs.Splice.{Bare, bareAt, nodeBare, rootBare}
 use Rattle.pool.specs.Altered.{numberless, Altered}
-use Rattle.pool.proofs.Decode.{slots-of}
+use Rattle.pool.proofs.Decode.{slots-stay}
 use Rattle.pool.proofs.Answers.{no-rule}
 use Rattle.pool.proofs.Ruled.{rule-tree}
 use Rattle.pool.proofs.Stands.{Stands, Holds, nodes-are, stands-at}
@@ -187,10 +187,8 @@ module _ {ws bs : List ℕ} {at : ℕ} (x : Found ws bs at) where
   unfolding removeCall removeT ifStored removeTold numberTold found-climbing
   stored v vs us ds e a d =
       let h = found-holds in
-      let l : Lengths us ds (h .slots) =
-      record { least = h .lengths .least; most = h .lengths .most; labels = d .lenB ∙ h .lengths .labels; words = d .lenW ∙ a .filled .lenW ∙ h .lengths .words } in
       rw (x .is, fits-well (x .key) (x .short), removeCall, found-number, ← e, ifStored, removeTold)
-      (record { said = refl; tree = d .tree; slots = slots-of us ds (h .slots) l ∙ sym (slots-of ws bs (h .slots) (h .lengths)) })
+      (record { said = refl; tree = d .tree; slots = slots-stay ws bs us ds (h .slots) (d .lenW ∙ a .filled .lenW) (d .lenB) (h .lengths) })
 
 -- The search has ended at the key's slot, or elsewhere: then no key is there.
 module _ {ws bs key : List ℕ} {d : Descent} (w : Known ws bs key d) where

@@ -23,7 +23,7 @@ use Rattle.pool.specs.Layout.{nodesOf, startOf, lenOf, spanOf}
 use Rattle.pool.specs.Pool.{poolTree, slotsOf}
 use Rattle.pool.specs.Rule.{Within, Lengths, PoolRule}
 use Rattle.pool.specs.Fields.{emptied}
-use Rattle.pool.proofs.Decode.{slots-of}
+use Rattle.pool.proofs.Decode.{slots-of, slots-stay}
 use Rattle.pool.proofs.Sums.{emptied-tree, emptied-slots}
 use Rattle.pool.proofs.Answers.{no-rule}
 use Rattle.pool.proofs.Ruled.{rule-tree}
@@ -40,13 +40,6 @@ use Rattle.split.specs.Lift.{Detached, DetachedBelow}
 use Rattle.split.specs.Post.{StayBoth, LeaveBoth, MeetBoth}
 use Rattle.split.specs.Halved.{Landed, Detachable, Leaving}
 use Rattle.split.proofs.Trees.{Spot, root-spot, node-spot, spot-detachable, spot-tree, label-tree}
-
--- The lengths stay.
-lengths-stay : {ws bs vs cs : List ℕ} {slots : ℕ} → length vs ≡ length ws → length cs ≡ length bs → Lengths ws bs slots → Lengths vs cs slots
-lengths-stay e f l = record { least = l .least; most = l .most; labels = f ∙ l .labels; words = e ∙ l .words }
-
-slots-stay : (ws bs vs cs : List ℕ) (slots : ℕ) → length vs ≡ length ws → length cs ≡ length bs → Lengths ws bs slots → slotsOf vs cs ≡ slotsOf ws bs
-slots-stay ws bs vs cs slots e f l = slots-of vs cs slots (lengths-stay e f l) ∙ sym (slots-of ws bs slots l)
 
 -- Both halves known: whether there is room, and what is then left
 module _ (ws bs ws₂ bs₂ : List ℕ) (t : Tree) (p : Key) (d u : Tree) (slots : ℕ) (is : poolTree ws bs ≡ some t) (short : length p ≤ keyMax) (l₂ : Lengths ws₂ bs₂ slots)

@@ -14,6 +14,7 @@ use Rattle.pool.specs.Layout.{nodesOf, startOf, lenOf, hasOf, spanOf, numAt}
 use Rattle.pool.specs.Records.{Rec, recAt, nodeRec, rootRec}
 use Rattle.pool.specs.Pool.{poolTree}
 use Rattle.pool.specs.Rule.{Within, Lengths}
+use Rattle.pool.proofs.Decode.{lengths-stay}
 use Rattle.pool.proofs.Stands.{Stands, Holds, nodes-are}
 use Rattle.pool.proofs.Held.{slot-is-rec, holds-tree}
 use Rattle.search.proofs.Places.{nodes-node}
@@ -134,7 +135,7 @@ module _ {ws bs : List ℕ} {t : Tree} (h : Holds ws bs t) where
       holds-tree us ds t₂
       (record {
         slots = slots;
-        lengths = record { least = l .least; most = l .most; labels = d .lenB ∙ l .labels; words = d .lenW ∙ l .words };
+        lengths = lengths-stay vs cs us ds slots (d .lenW) (d .lenB) l;
         nodes = omega (arith, d .nodes, nodes-are t₂);
         room = omega (arith, nodes-are t₂);
         root = d .root ∙ cc (ap (λ (x : Num). rootRec x (spanOf ws at - 1)) (p .num), ap (rootRec w) m);
@@ -159,7 +160,7 @@ module _ {ws bs : List ℕ} {t : Tree} (h : Holds ws bs t) where
       holds-tree us ds t₂
       (record {
         slots = slots;
-        lengths = record { least = len .least; most = len .most; labels = d .lenB ∙ len .labels; words = d .lenW ∙ len .words };
+        lengths = lengths-stay vs cs us ds slots (d .lenW) (d .lenB) len;
         nodes = omega (arith, d .nodes, nodes-are t₂);
         room = omega (arith, nodes-are t₂);
         root = d .root ∙ ap (rootRec none) (sp ∙ sym z);

@@ -14,9 +14,9 @@ use Rattle.label.proofs.Moves.{by-eq}
 use Rattle.pool.specs.Layout.{nodesOf, startOf, spanOf}
 use Rattle.pool.specs.Records.{nodeRec}
 use Rattle.pool.specs.Pool.{poolTree}
-use Rattle.pool.specs.Rule.{Lengths}
 use Rattle.pool.specs.Splice.{Bare, bareAt, baresFrom, baresF, rootBare, baresT, solid, Linked, Settled, Closed}
 use Rattle.pool.specs.Altered.{Altered}
+use Rattle.pool.proofs.Decode.{lengths-stay}
 use Rattle.pool.proofs.Runs.{run-cons, run-length, run-ext}
 use Rattle.pool.proofs.Stands.{Stands, Holds, nodes-are, stands-at}
 use Rattle.pool.proofs.Held.{slot-is-rec, tree-holds}
@@ -235,12 +235,7 @@ module _ {ws bs : List ℕ} {t final : Tree} {vs cs us ds es : List ℕ} {n r : 
       let k = g .kept in
       whole-tree es ds final (h .slots)
       (record {
-        lengths = record {
-          least = h .lengths .least;
-          most = h .lengths .most;
-          labels = c .lenB ∙ k .lenB ∙ h .lengths .labels;
-          words = s .len ∙ c .lenW ∙ k .lenW ∙ h .lengths .words;
-        };
+        lengths = lengths-stay ws bs es ds (h .slots) (s .len ∙ c .lenW ∙ k .lenW) (c .lenB ∙ k .lenB) (h .lengths);
         nodes = s .nodes ∙ e;
         room = omega (arith, h .nodes, h .room, k .nodes);
         bares = all;
