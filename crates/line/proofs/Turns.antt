@@ -13,9 +13,11 @@ use Rattle.line.specs.Spelling.{nibble, value, Decimal, Hexed, none, Hex
 use Rattle.line.specs.declared.Taken.{Taken}
 use Rattle.line.specs.declared.Numeral.{Numeral}
 
--- A test has one answer.
-pub apart : {b : Bool} → b ≡ true → b ≡ false → ⊥
-apart p q = let z : _≡_ {A = ℕ} 0 1 = cc in omega arith
+-- Where `same` has said no, the two are different.
+pub other : {r : Bool} {s w : List ℕ} → (r ≡ true → s ≡ w) × (s ≡ w → r ≡ true) → r ≡ false → s ≡ w → ⊥
+other same left e =
+    let yes = same .1 e in
+    let z : _≡_ {A = ℕ} 0 1 = cc in omega arith
 
 -- The first i bytes are there, and the digits that spell them are digits.
 pub record Hexing (s was out : List ℕ) (i : ℕ) : Type 0 where

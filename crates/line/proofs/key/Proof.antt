@@ -1,6 +1,6 @@
 -- `line::key` meets its contract. Assumes nothing.
 use native.Mathlib.Omega.{arith}
-use Rattle.line.proofs.Turns.{apart, key-taken}
+use Rattle.line.proofs.Turns.{other, key-taken}
 use mathlib.Core.Logic.{inl}
 use mathlib.Core.Path.{refl}
 use borrow.Author.Needs.{needs}
@@ -17,7 +17,7 @@ returns : tie.Need-returns
 returns c = inl (c .before .same .ensures .0 (c .if1 .taken), refl)
 
 returns-2 : tie.Need-returns-2
-returns-2 c = (λ e. apart (c .before .before .same .ensures .1 e) (c .before .if1 .left), λ p d r. omega arith)
+returns-2 c = (other (c .before .before .same .ensures) (c .before .if1 .left), λ p d r. omega arith)
 
 hex-requires : tie.Need-hex-requires
 hex-requires c κs = search needs
@@ -28,7 +28,7 @@ same-length c = search needs
 returns-3 : tie.Need-returns-3
 returns-3 c =
     let at = c .before .before .before .before .before in
-    key-taken (c .before .before .hex .result) _ _ (λ e. apart (at .before .same .ensures .1 e) (at .if1 .left)) (omega arith) (c .before .before .hex .ensures)
+    key-taken (c .before .before .hex .result) _ _ (other (at .before .same .ensures) (at .if1 .left)) (omega arith) (c .before .before .hex .ensures)
 
 pub key-spec : {M : Type 1} → statement M
 key-spec =

@@ -1,6 +1,6 @@
 -- `line::numbers` meets its contract. Assumes nothing.
 use Rattle.line.proofs.Lists.{list-taken}
-use Rattle.line.proofs.Turns.{apart}
+use Rattle.line.proofs.Turns.{other}
 use mathlib.Core.Logic.{inl}
 use mathlib.Core.Path.{refl}
 use borrow.Author.Needs.{needs}
@@ -26,7 +26,7 @@ returns-2 : tie.Need-returns-2
 returns-2 c =
     let m = c .before .before in
     let at = m .before .before in
-    list-taken (m .many .result) _ _ (λ e. apart (at .before .same .ensures .1 e) (at .if1 .left)) (m .many .ensures)
+    list-taken (m .many .result) _ _ (other (at .before .same .ensures) (at .if1 .left)) (m .many .ensures)
 
 pub numbers-spec : {M : Type 1} → statement M
 numbers-spec =

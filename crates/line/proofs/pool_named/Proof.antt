@@ -1,41 +1,21 @@
--- `line::pool_named` meets its contract. Assumes nothing.
-use Rattle.line.proofs.Turns.{apart}
+-- `line::pool_named` meets its contract: a test that came out true says that the word is the name tried, one that came out false that
+-- it is another. Assumes nothing.
+use Rattle.line.proofs.Turns.{other}
 use borrow.Author.Needs.{needs}
 use Rattle.line.proofs.pool_named.Statement.{statement}
 use Rattle.line.proofs.pool_named.Tie as tie
 
-slice-aggregate-same : tie.Need-slice-aggregate-same
-slice-aggregate-same c = search needs
-
-same-requires : tie.Need-same-requires
-same-requires c κs = search needs
-
-returns : tie.Need-returns
-returns c = c .before .same .ensures .0 (c .if1 .taken)
-
-slice-aggregate-same-2 : tie.Need-slice-aggregate-same-2
-slice-aggregate-same-2 c = search needs
-
-same-requires-2 : tie.Need-same-requires-2
-same-requires-2 c κs = search needs
-
-returns-2 : tie.Need-returns-2
-returns-2 c = c .before .same2 .ensures .0 (c .if2 .taken)
-
-returns-3 : tie.Need-returns-3
-returns-3 c = (
-  (λ e. apart (c .before .before .before .before .same .ensures .1 e) (c .before .before .before .if1 .left)),
-  (λ e. apart (c .before .same2 .ensures .1 e) (c .if2 .left)),
-)
+-- none of the names
+unknown : tie.Need-returns-3
+unknown c =
+    let c₁ = c .before .before .before in (
+      other (c₁ .before .same .ensures) (c₁ .if1 .left),
+      other (c .before .same2 .ensures) (c .if2 .left),
+    )
 
 pub pool-named-spec : {M : Type 1} → statement M
 pool-named-spec =
-    tie.close
-    (tie.spec
-    slice-aggregate-same
-    same-requires
-    returns
-    slice-aggregate-same-2
-    same-requires-2
-    returns-2
-    returns-3)
+    tie.close (tie.spec
+    (λ c. search needs) (λ c κs. search needs) (λ c. c .before .same .ensures .0 (c .if1 .taken))
+    (λ c. search needs) (λ c κs. search needs) (λ c. c .before .same2 .ensures .0 (c .if2 .taken))
+    unknown)

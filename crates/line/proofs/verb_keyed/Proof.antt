@@ -1,80 +1,30 @@
--- `line::verb_keyed` meets its contract. Assumes nothing.
-use Rattle.line.proofs.Turns.{apart}
+-- `line::verb_keyed` meets its contract: a test that came out true says that the word is the name tried, one that came out false that
+-- it is another. Assumes nothing.
+use Rattle.line.proofs.Turns.{other}
 use borrow.Author.Needs.{needs}
 use Rattle.line.proofs.verb_keyed.Statement.{statement}
 use Rattle.line.proofs.verb_keyed.Tie as tie
 
-slice-aggregate-same : tie.Need-slice-aggregate-same
-slice-aggregate-same c = search needs
-
-same-requires : tie.Need-same-requires
-same-requires c κs = search needs
-
-returns : tie.Need-returns
-returns c = c .before .same .ensures .0 (c .if1 .taken)
-
-slice-aggregate-same-2 : tie.Need-slice-aggregate-same-2
-slice-aggregate-same-2 c = search needs
-
-same-requires-2 : tie.Need-same-requires-2
-same-requires-2 c κs = search needs
-
-returns-2 : tie.Need-returns-2
-returns-2 c = c .before .same2 .ensures .0 (c .if2 .taken)
-
-slice-aggregate-same-3 : tie.Need-slice-aggregate-same-3
-slice-aggregate-same-3 c = search needs
-
-same-requires-3 : tie.Need-same-requires-3
-same-requires-3 c κs = search needs
-
-returns-3 : tie.Need-returns-3
-returns-3 c = c .before .same3 .ensures .0 (c .if3 .taken)
-
-slice-aggregate-same-4 : tie.Need-slice-aggregate-same-4
-slice-aggregate-same-4 c = search needs
-
-same-requires-4 : tie.Need-same-requires-4
-same-requires-4 c κs = search needs
-
-returns-4 : tie.Need-returns-4
-returns-4 c = c .before .same4 .ensures .0 (c .if4 .taken)
-
-slice-aggregate-same-5 : tie.Need-slice-aggregate-same-5
-slice-aggregate-same-5 c = search needs
-
-same-requires-5 : tie.Need-same-requires-5
-same-requires-5 c κs = search needs
-
-returns-5 : tie.Need-returns-5
-returns-5 c = c .before .same5 .ensures .0 (c .if5 .taken)
-
-returns-6 : tie.Need-returns-6
-returns-6 c = (
-  (λ e. apart (c .before .before .before .before .before .before .before .before .before .before .before .before .before .same .ensures .1 e) (c .before .before .before .before .before .before .before .before .before .before .before .before .if1 .left)),
-  (λ e. apart (c .before .before .before .before .before .before .before .before .before .before .same2 .ensures .1 e) (c .before .before .before .before .before .before .before .before .before .if2 .left)),
-  (λ e. apart (c .before .before .before .before .before .before .before .same3 .ensures .1 e) (c .before .before .before .before .before .before .if3 .left)),
-  (λ e. apart (c .before .before .before .before .same4 .ensures .1 e) (c .before .before .before .if4 .left)),
-  (λ e. apart (c .before .same5 .ensures .1 e) (c .if5 .left)),
-)
+-- none of the names
+unknown : tie.Need-returns-6
+unknown c =
+    let c₄ = c .before .before .before in
+    let c₃ = c₄ .before .before .before in
+    let c₂ = c₃ .before .before .before in
+    let c₁ = c₂ .before .before .before in (
+      other (c₁ .before .same .ensures) (c₁ .if1 .left),
+      other (c₂ .before .same2 .ensures) (c₂ .if2 .left),
+      other (c₃ .before .same3 .ensures) (c₃ .if3 .left),
+      other (c₄ .before .same4 .ensures) (c₄ .if4 .left),
+      other (c .before .same5 .ensures) (c .if5 .left),
+    )
 
 pub verb-keyed-spec : {M : Type 1} → statement M
 verb-keyed-spec =
-    tie.close
-    (tie.spec
-    slice-aggregate-same
-    same-requires
-    returns
-    slice-aggregate-same-2
-    same-requires-2
-    returns-2
-    slice-aggregate-same-3
-    same-requires-3
-    returns-3
-    slice-aggregate-same-4
-    same-requires-4
-    returns-4
-    slice-aggregate-same-5
-    same-requires-5
-    returns-5
-    returns-6)
+    tie.close (tie.spec
+    (λ c. search needs) (λ c κs. search needs) (λ c. c .before .same .ensures .0 (c .if1 .taken))
+    (λ c. search needs) (λ c κs. search needs) (λ c. c .before .same2 .ensures .0 (c .if2 .taken))
+    (λ c. search needs) (λ c κs. search needs) (λ c. c .before .same3 .ensures .0 (c .if3 .taken))
+    (λ c. search needs) (λ c κs. search needs) (λ c. c .before .same4 .ensures .0 (c .if4 .taken))
+    (λ c. search needs) (λ c κs. search needs) (λ c. c .before .same5 .ensures .0 (c .if5 .taken))
+    unknown)
