@@ -5,6 +5,8 @@ use mathlib.Core.Option.{Option, none, some}
 use Prim.Native.Nat.{ℕ, zero, suc, _+_, _<_, _≤_}
 use native.Mathlib.Omega.{arith}
 use lib.ListN.{getD}
+use mir.Syntax.{w8}
+use mir.Val.{Fits}
 use Rattle.tree.specs.Key.{Key, Bytes}
 use Rattle.tree.specs.Tree.{Tree, nodesT, keysT, empty}
 use Rattle.tree.specs.Remove.{clearT}
@@ -22,9 +24,9 @@ use Rattle.pool.proofs.Held.{tree-holds}
 use Rattle.pool.proofs.Sums.{sum-keys, emptied-tree, emptied-slots}
 
 -- The bytes of a lent slice are below 256.
-pub bytes-of : (bs : List ℕ) → ((i : ℕ) → getD bs i 0 < 256) → Bytes bs
+pub bytes-of : (bs : List ℕ) → ((i : ℕ) → Fits w8 (getD bs i 0)) → Bytes bs
 bytes-of [] h = tt
-bytes-of (x ∷ bs) h = (h 0, bytes-of bs (λ i. h (suc i)))
+bytes-of (x ∷ bs) h = (omega (arith, h 0), bytes-of bs (λ i. h (suc i)))
 
 -- Where the rule fails there is no tree.
 pub no-rule : (ws bs : List ℕ) → (PoolRule ws bs → ⊥) → poolTree ws bs ≡ none

@@ -5,7 +5,9 @@ use mathlib.Core.List.{List, [], _∷_, _++_}
 use mathlib.Core.Option.{none, some}
 use Prim.Native.Nat.{ℕ, zero, suc, _+_, _*_, _≤_, _<_}
 use native.Mathlib.Omega.{arith}
-use lib.ListN.{length, length-append}
+use lib.ListN.{length, getD, length-append}
+use mir.Syntax.{w8}
+use mir.Val.{Fits}
 use borrow.Author.Tests.{le-leb, lt-leb}
 use Rattle.tree.specs.Key.{Key, Bytes, keyMax}
 use Rattle.tree.specs.Map.{Num}
@@ -22,7 +24,7 @@ use Rattle.pool.specs.Pool.{poolTree}
 use Rattle.pool.specs.Records.{nodeRec, rootRec}
 use Rattle.pool.specs.Rule.{PoolRule}
 use Rattle.pool.proofs.Ruled.{rule-tree}
-use Rattle.pool.proofs.Answers.{no-rule}
+use Rattle.pool.proofs.Answers.{no-rule, bytes-of}
 use Rattle.pool.proofs.Stands.{Stands, Holds, nodes-are, stands-at}
 use Rattle.pool.proofs.Held.{slot-is-rec, tree-holds}
 use Rattle.search.specs.declared.Stop.{Stop}
@@ -230,6 +232,11 @@ pub record Known (ws bs key : List ℕ) (d : Descent) : Type 0 where
   pub bytes : Bytes bs
   pub short : length key ≤ keyMax
   pub lands : (t : Tree) → poolTree ws bs ≡ some t → Lands t key d
+
+-- It knows this from what it requires, from a slice that holds bytes and from what `descend` ensures.
+pub knows : {ws bs key : List ℕ} {d : Descent} → PoolRule ws bs → length key ≤ keyMax → ((i : ℕ) → Fits w8 (getD bs i 0)) → ((t : Tree) → poolTree ws bs ≡ some t → Lands t key d)
+    → Known ws bs key d
+knows {ws} {bs} rule short h lands = record { rule = rule; bytes = bytes-of bs h; short = short; lands = lands }
 
 module _ {ws bs key : List ℕ} {d : Descent} (w : Known ws bs key d) where
   -- the pool's tree, and where the search has come to in it, where s is the way of ending

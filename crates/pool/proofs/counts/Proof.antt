@@ -23,7 +23,7 @@ keys-in-requires c κs =
 returns-2 : tie.Need-returns-2
 returns-2 c =
     let r = c .before .before .before .is-pool .ensures .yes (not-false _ (c .before .before .if1 .left)) in
-    let by = bytes-of (c .before .before .before .before .before .before .args .labels .now) (λ i. omega (arith, c .before .before .before .before .before .shared-slice-known .given i)) in
+    let by = bytes-of (c .before .before .before .before .before .before .args .labels .now) (c .before .before .before .before .before .shared-slice-known .given) in
     counts-done _ _ r by _ _ (c .keys-in .ensures) (c .before .nodes-in .ensures .0)
 
 pub counts-spec : {M : Type 1} → statement M

@@ -1,9 +1,8 @@
 -- `remove::remove_in` meets its contract, by where the search has ended. Assumes nothing.
 use mathlib.Core.Path.{refl}
 use native.Mathlib.Omega.{arith}
-use Rattle.pool.proofs.Answers.{bytes-of}
 use Rattle.search.specs.declared.Stop.{Stop}
-use Rattle.search.proofs.Answers.{Known, gotAt}
+use Rattle.search.proofs.Answers.{Known, knows, gotAt}
 use Rattle.remove.proofs.Taken.{found, elsewhere}
 use borrow.Author.Needs.{needs}
 use Rattle.remove.proofs.remove_in.Statement.{statement}
@@ -13,12 +12,7 @@ use Rattle.remove.proofs.remove_in.Tie as tie
 known : (c : tie.After-descend) → let a = c .before .before .before .before .before .before .args in Known (a .words .now) (a .labels .now) (a .key .now) (c .descend .result)
 known c =
     let start = c .before .before .before .before .before .before in
-    record {
-      rule = start .pre .0;
-      bytes = bytes-of (start .args .labels .now) (λ i. omega (arith, c .before .before .before .before .before .slice-known .given i));
-      short = start .pre .1;
-      lands = c .descend .ensures;
-    }
+    knows (start .pre .0) (start .pre .1) (c .before .before .before .before .before .slice-known .given) (c .descend .ensures)
 
 descend-requires : tie.Need-descend-requires
 descend-requires c κs = search needs

@@ -32,7 +32,7 @@ meets : (c : tie.After-meet Inv-loop μ-loop) (m : Meeting) → c .meet .result 
 meets c m e = node-means (here (c .before)) _ m (c .meet .ensures) e
 
 bytes : (c : tie.After-shared-slice-known Inv-loop μ-loop) → Bytes (c .before .args .labels .now)
-bytes c = bytes-of (c .before .args .labels .now) (λ i. omega (arith, c .shared-slice-known .given i))
+bytes c = bytes-of (c .before .args .labels .now) (c .shared-slice-known .given)
 
 nodes-in-requires : tie.Need-nodes-in-requires Inv-loop μ-loop
 nodes-in-requires c κs = omega arith

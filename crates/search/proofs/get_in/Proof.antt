@@ -1,10 +1,8 @@
 -- `search::get_in` meets its contract, by where the descent has come to. Assumes nothing.
 use mathlib.Core.Path.{refl}
-use native.Mathlib.Omega.{arith}
 use Rattle.tree.specs.Calls.{numberTold}
-use Rattle.pool.proofs.Answers.{bytes-of}
 use Rattle.search.specs.declared.Stop.{Stop}
-use Rattle.search.proofs.Answers.{Known, gotAt, got-slot, got-is}
+use Rattle.search.proofs.Answers.{Known, knows, gotAt, got-slot, got-is}
 use borrow.Author.Needs.{needs}
 use Rattle.search.proofs.get_in.Statement.{statement}
 use Rattle.search.proofs.get_in.Tie as tie
@@ -13,36 +11,13 @@ use Rattle.search.proofs.get_in.Tie as tie
 known : (c : tie.After-descend) → let a = c .before .before .before .before .args in Known (a .words .now) (a .labels .now) (a .key .now) (c .descend .result)
 known c =
     let start = c .before .before .before .before in
-    record {
-      rule = start .pre .0;
-      bytes = bytes-of (start .args .labels .now) (λ i. omega (arith, c .before .before .before .shared-slice-known .given i));
-      short = start .pre .1;
-      lands = c .descend .ensures;
-    }
-
-descend-requires : tie.Need-descend-requires
-descend-requires c κs = search needs
-
-enum-told : tie.Need-enum-told
-enum-told c = search needs
+    knows (start .pre .0) (start .pre .1) (c .before .before .before .shared-slice-known .given) (c .descend .ensures)
 
 number-in-requires : tie.Need-number-in-requires
 number-in-requires c κs = got-slot (known (c .before .before .before)) Stop.Root (c .enum-told .given .1) tt
 
-enum-told-2 : tie.Need-enum-told-2
-enum-told-2 c = search needs
-
-enum-told-3 : tie.Need-enum-told-3
-enum-told-3 c = search needs
-
 number-in-requires-2 : tie.Need-number-in-requires-2
 number-in-requires-2 c κs = got-slot (known (c .before .before .before)) Stop.Same (c .enum-told3 .given .1) tt
-
-enum-told-4 : tie.Need-enum-told-4
-enum-told-4 c = search needs
-
-enum-told-5 : tie.Need-enum-told-5
-enum-told-5 c = search needs
 
 returns : tie.Need-returns
 unfolding gotAt
@@ -67,17 +42,5 @@ returns-5 c = got-is (known (c .before .before .before)) (Stop.Fork _) (c .enum-
 pub get-in-spec : {M : Type 1} → statement M
 get-in-spec =
     tie.close
-    (tie.spec
-    descend-requires
-    enum-told
-    number-in-requires
-    enum-told-2
-    enum-told-3
-    number-in-requires-2
-    enum-told-4
-    enum-told-5
-    returns
-    returns-2
-    returns-3
-    returns-4
-    returns-5)
+    (tie.spec (λ c κs. search needs) (λ c. search needs) number-in-requires (λ c. search needs) (λ c. search needs) number-in-requires-2
+    (λ c. search needs) (λ c. search needs) returns returns-2 returns-3 returns-4 returns-5)

@@ -1,9 +1,8 @@
 -- `search::shared_in` meets its contract, by where the descent has come to. Assumes nothing.
 use mathlib.Core.Path.{refl}
 use native.Mathlib.Omega.{arith}
-use Rattle.pool.proofs.Answers.{bytes-of}
 use Rattle.search.specs.declared.Stop.{Stop}
-use Rattle.search.proofs.Answers.{Known, sharedAt, shared-is, shared-within}
+use Rattle.search.proofs.Answers.{Known, knows, sharedAt, shared-is, shared-within}
 use borrow.Author.Needs.{needs}
 use Rattle.search.proofs.shared_in.Statement.{statement}
 use Rattle.search.proofs.shared_in.Tie as tie
@@ -12,30 +11,7 @@ use Rattle.search.proofs.shared_in.Tie as tie
 known : (c : tie.After-descend) → let a = c .before .before .before .before .args in Known (a .words .now) (a .labels .now) (a .query .now) (c .descend .result)
 known c =
     let start = c .before .before .before .before in
-    record {
-      rule = start .pre .0;
-      bytes = bytes-of (start .args .labels .now) (λ i. omega (arith, c .before .before .before .shared-slice-known .given i));
-      short = start .pre .1;
-      lands = c .descend .ensures;
-    }
-
-descend-requires : tie.Need-descend-requires
-descend-requires c κs = search needs
-
-enum-told : tie.Need-enum-told
-enum-told c = search needs
-
-enum-told-2 : tie.Need-enum-told-2
-enum-told-2 c = search needs
-
-enum-told-3 : tie.Need-enum-told-3
-enum-told-3 c = search needs
-
-enum-told-4 : tie.Need-enum-told-4
-enum-told-4 c = search needs
-
-enum-known-stop : tie.Need-enum-known-stop
-enum-known-stop c = search needs
+    knows (start .pre .0) (start .pre .1) (c .before .before .before .shared-slice-known .given) (c .descend .ensures)
 
 add-n : tie.Need-add-n
 unfolding sharedAt
@@ -64,16 +40,5 @@ returns-5 c = shared-is (known (c .before .before .before)) (Stop.Fork _) (c .be
 pub shared-in-spec : {M : Type 1} → statement M
 shared-in-spec =
     tie.close
-    (tie.spec
-    descend-requires
-    enum-told
-    enum-told-2
-    enum-told-3
-    enum-told-4
-    enum-known-stop
-    add-n
-    returns
-    returns-2
-    returns-3
-    returns-4
-    returns-5)
+    (tie.spec (λ c κs. search needs) (λ c. search needs) (λ c. search needs) (λ c. search needs) (λ c. search needs) (λ c. search needs) add-n returns
+    returns-2 returns-3 returns-4 returns-5)

@@ -1,8 +1,7 @@
 -- `split::split_in` meets its contract, by where the search has ended. Assumes nothing.
 use native.Mathlib.Omega.{arith}
-use Rattle.pool.proofs.Answers.{bytes-of}
 use Rattle.search.specs.declared.Stop.{Stop}
-use Rattle.search.proofs.Answers.{Known}
+use Rattle.search.proofs.Answers.{Known, knows}
 use Rattle.split.proofs.Halves.{landed, landed-root, gap-absent, fork-absent}
 use borrow.Author.Needs.{needs}
 use Rattle.split.proofs.split_in.Statement.{statement}
@@ -12,12 +11,7 @@ use Rattle.split.proofs.split_in.Tie as tie
 known : (c : tie.After-descend) → let a = c .before .before .before .before .before .before .before .before .args in Known (a .words .now) (a .labels .now) (a .prefix .now) (c .descend .result)
 known c =
     let start = c .before .before .before .before .before .before .before .before in
-    record {
-      rule = start .pre .0;
-      bytes = bytes-of (start .args .labels .now) (λ i. omega (arith, c .before .before .before .before .before .before .before .slice-known .given i));
-      short = start .pre .1;
-      lands = c .descend .ensures;
-    }
+    knows (start .pre .0) (start .pre .1) (c .before .before .before .before .before .before .before .slice-known .given) (c .descend .ensures)
 
 descend-requires : tie.Need-descend-requires
 descend-requires c κs = search needs

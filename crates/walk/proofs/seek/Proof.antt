@@ -20,7 +20,7 @@ nodes-in-requires : tie.Need-nodes-in-requires Inv-loop μ-loop
 nodes-in-requires c κs = omega arith
 
 loop-holds : tie.Need-loop-holds Inv-loop μ-loop
-loop-holds c = ahead-start _ _ _ (c .before .before .before .before .before .before .pre .0) (bytes-of (c .before .before .before .before .before .before .args .labels .now) (λ i. omega (arith, c .before .before .before .before .before .shared-slice-known .given i))) (c .nodes-in .ensures .0) (c .before .before .before .before .before .before .pre .1)
+loop-holds c = ahead-start _ _ _ (c .before .before .before .before .before .before .pre .0) (bytes-of (c .before .before .before .before .before .before .args .labels .now) (c .before .before .before .before .before .shared-slice-known .given)) (c .nodes-in .ensures .0) (c .before .before .before .before .before .before .pre .1)
 
 lay-requires : tie.Need-lay-requires Inv-loop μ-loop
 lay-requires c κs = slot-room (c .before .before .loop .inv) (c .before .loop-test .taken)

@@ -14,7 +14,7 @@ rule-at c = c .before .is-pool .ensures .yes (not-false _ (c .if1 .left))
 
 known-at : (c : tie.After-nodes-in) → Known (c .before .before .before .before .before .before .before .args .words .now) (c .before .before .before .before .before .before .before .args .labels .now) (c .nodes-in .result)
 known-at c =
-    known (rule-at (c .before)) (bytes-of (c .before .before .before .before .before .before .before .args .labels .now) (λ i. omega (arith, c .before .before .before .before .before .before .shared-slice-known .given i))) (c .nodes-in .ensures .0)
+    known (rule-at (c .before)) (bytes-of (c .before .before .before .before .before .before .before .args .labels .now) (c .before .before .before .before .before .before .shared-slice-known .given)) (c .nodes-in .ensures .0)
 
 is-pool-requires : tie.Need-is-pool-requires
 is-pool-requires c κs = search needs

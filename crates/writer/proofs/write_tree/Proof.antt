@@ -9,7 +9,7 @@ use Rattle.writer.proofs.write_tree.Tie as tie
 
 -- the labels are bytes
 bytes-at : (c : tie.After-shared-slice-known) → Bytes (c .before .args .labels .now)
-bytes-at c = bytes-of (c .before .args .labels .now) (λ i. omega (arith, c .shared-slice-known .given i))
+bytes-at c = bytes-of (c .before .args .labels .now) (c .shared-slice-known .given)
 
 nodes-in-requires : tie.Need-nodes-in-requires
 nodes-in-requires c κs = words-there (bytes-at (c .before .before)) (c .before .before .before .pre)
