@@ -10,9 +10,9 @@ use Rattle.tree.specs.Map.{Num}
 use Rattle.label.specs.Runs.{MovedDown}
 use Rattle.label.proofs.Moves.{by-lt, by-eq}
 use Rattle.pool.specs.Layout.{startOf, lenOf, hasOf, numberOf, spanOf, labelOf, numOf, numAt}
-use Rattle.pool.specs.Splice.{Bare, bareAt, headPut, labelPut, bareOf, Filled}
+use Rattle.pool.specs.Splice.{Bare, bareAt, headPut, bareOf, Filled}
 use Rattle.pool.specs.Altered.{gapOf, numberless, joinOf, Altered, Joinable, Emptied}
-use Rattle.pool.proofs.Slots.{at-place, bare-eq, put-length, put-low, put-mid, put-high, filled-by, head-span}
+use Rattle.pool.proofs.Slots.{at-place, labelPut, bare-eq, put-length, put-low, put-mid, put-high, filled-by, head-span}
 use Rattle.pool.proofs.Cuts.{label-length, label-get}
 
 -- A word of a slot written, but no span

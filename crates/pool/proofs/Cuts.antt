@@ -10,8 +10,8 @@ use Rattle.tree.specs.Map.{Num}
 use Rattle.label.specs.Runs.{MovedDown}
 use Rattle.label.proofs.Moves.{by-lt}
 use Rattle.pool.specs.Layout.{startOf, lenOf, labelOf, numOf, numAt}
-use Rattle.pool.specs.Splice.{Bare, bareAt, headPut, labelPut, bareOf, frontOf, backOf, Filled}
-use Rattle.pool.proofs.Slots.{at-place, put-length, put-low, put-mid, put-high, filled-by}
+use Rattle.pool.specs.Splice.{Bare, bareAt, headPut, bareOf, frontOf, backOf, Filled}
+use Rattle.pool.proofs.Slots.{at-place, labelPut, put-length, put-low, put-mid, put-high, filled-by}
 
 -- The number read back
 pub stored-none : (h v : ℕ) → h ≡ 0 → none ≡ numOf h v

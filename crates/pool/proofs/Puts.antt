@@ -1,34 +1,22 @@
 -- A slot written: its words, its label, its record; what is not written stays. Assumes nothing.
 use mathlib.Core.Path.{_≡_, refl, sym, ap, _∙_}
-use mathlib.Core.List.{List, [], _∷_, _++_}
-use Prim.Native.Nat.{ℕ, zero, suc, _+_, _*_, _-_, _≤_, _<_}
+use mathlib.Core.List.{List, [], _∷_}
+use Prim.Native.Nat.{ℕ, suc, _+_, _*_, _-_, _≤_, _<_}
 use native.Mathlib.Omega.{arith}
-use lib.ListN.{length, getD, set, take, drop, length-set, length-take, length-drop}
-use lib.Seq.{sets, length-sets, getD-set-same, getD-set-other, getD-take, getD-drop, take-take, take-at, drop-at, ext-getD, length-take-le}
-use borrow.Rule.Slice.PartMut.{putMid, postOf, same-len-mid, mid-len, take-put, drop-put}
+use lib.ListN.{length, getD, set, take, drop, length-take, length-drop}
+use lib.Seq.{sets, length-sets, getD-set-other, getD-take, getD-drop, ext-getD}
+use borrow.Rule.Slice.PartMut.{putMid}
+use Rattle.tree.specs.Map.{Num}
 use Rattle.tree.specs.Tree.{Forest, nil, node, nodesF}
 use Rattle.label.proofs.Moves.{by-lt}
 use Rattle.pool.specs.declared.put.Head.{Head}
 use Rattle.pool.specs.Layout.{startOf, lenOf, hasOf, numberOf, spanOf, labelOf, numOf}
-use Rattle.pool.specs.Records.{recAt}
+use Rattle.pool.specs.Records.{Rec, recAt}
 use Rattle.pool.specs.Put.{WordsPut, LabelPut, SlotPut, recOf}
+use Rattle.pool.specs.Splice.{bareOf, HeadOf, Filled}
 use Rattle.pool.proofs.Stands.{Stands}
-
--- a run of stores, place by place
-sets-low : (l : List ℕ) (i : ℕ) (vs : List ℕ) (j : ℕ) → j < i → getD (sets l i vs) j 0 ≡ getD l j 0
-sets-low l i [] j h = refl
-sets-low l i (v ∷ vs) j h = sets-low (set l i v) (suc i) vs j (omega arith) ∙ getD-set-other l i j v 0 (λ e. omega arith)
-
-sets-high : (l : List ℕ) (i : ℕ) (vs : List ℕ) (j : ℕ) → i + length vs ≤ j → getD (sets l i vs) j 0 ≡ getD l j 0
-sets-high l i [] j h = refl
-sets-high l i (v ∷ vs) j h = sets-high (set l i v) (suc i) vs j (omega arith) ∙ getD-set-other l i j v 0 (λ e. omega arith)
-
-sets-mid : (l : List ℕ) (i : ℕ) (vs : List ℕ) (j k : ℕ) → i + length vs ≤ length l → j < length vs → k ≡ i + j → getD (sets l i vs) k 0 ≡ getD vs j 0
-sets-mid l i [] j k r h e = absurd (omega arith)
-sets-mid l i (v ∷ vs) zero k r h e =
-    let q : k ≡ i = omega arith in
-    rw q (sets-low (set l i v) (suc i) vs i (omega arith) ∙ getD-set-same l i v 0 (omega arith))
-sets-mid l i (v ∷ vs) (suc j) k r h e = sets-mid (set l i v) (suc i) vs j k (rw length-set (omega arith)) (omega arith) (omega arith)
+use Rattle.pool.proofs.Bares.{bare-of}
+use Rattle.pool.proofs.Slots.{sets-low, sets-high, sets-mid, label-put-eq, put-length, put-low, put-high, put-label-is, num-read}
 
 -- the words of a slot
 abbrev wordsOf : Head → List ℕ
@@ -63,30 +51,13 @@ words-put ws vs i h room e =
       high = λ j l. sets-high ws (6 * i + 8) (wordsOf h) j (omega arith);
     })
 
--- places of two lists that agree up to n, or from n on
-same-low : (n : ℕ) (xs ys : List ℕ) → take n xs ≡ take n ys → (j : ℕ) → j < n → getD xs j 0 ≡ getD ys j 0
-same-low n xs ys e j h = sym (getD-take n xs j 0 h) ∙ ap (λ (z : List ℕ). getD z j 0) e ∙ getD-take n ys j 0 h
-
-same-high : (n : ℕ) (xs ys : List ℕ) → drop n xs ≡ drop n ys → (j : ℕ) → n ≤ j → getD xs j 0 ≡ getD ys j 0
-same-high n xs ys e j h =
-    let q : n + (j - n) ≡ j = omega arith in
-    rw q at (sym (getD-drop n xs (j - n) 0) ∙ ap (λ (z : List ℕ). getD z (j - n) 0) e ∙ getD-drop n ys (j - n) 0)
-
 -- a label in the place of as many bytes
 pub label-put : (bs ys l : List ℕ) (i : ℕ) → 255 * i + 255 ≤ length bs → length l ≤ 255 → ys ≡ l
     → LabelPut bs (putMid (255 * i) (255 * i + length l - 255 * i) bs ys) i l
 label-put bs ys l i room short e =
-    let a = 255 * i in
-    let n : a + length l - a ≡ length l = omega arith in
-    let cs = putMid a (a + length l - a) bs l in
-    let there : drop a cs ≡ l ++ postOf a (a + length l - a) bs = drop-at (take a bs) _ a (length-take-le a bs (omega arith)) in
-    rw e
-    (record {
-      size = same-len-mid a (a + length l - a) bs l (sym (mid-len a (a + length l) bs (omega arith) ∙ n));
-      label = take-take (length l) 255 (drop a cs) short ∙ ap (λ (z : List ℕ). take (length l) z) there ∙ take-at l _ (length l) refl;
-      low = same-low a cs bs (take-put a (a + length l - a) bs l (omega arith));
-      high = same-high (a + length l) cs bs (drop-put a (a + length l) bs l (omega arith) (omega arith) (sym n));
-    })
+    let fits : 255 * i + length l ≤ length bs = omega arith in
+    rw (label-put-eq bs i l ys e)
+    (record { size = put-length bs i l fits; label = put-label-is bs i l fits short room; low = put-low bs i l fits; high = put-high bs i l fits })
 
 -- Where a slot's words and bytes are as they were, so is its record.
 pub rec-same : (ws bs vs cs : List ℕ) (k : ℕ) → ((j : ℕ) → 6 * k + 8 ≤ j → j < 6 * k + 13 → getD vs j 0 ≡ getD ws j 0)
@@ -132,6 +103,23 @@ module _ (ws bs vs cs : List ℕ) (i : ℕ) (h : Head) (l : List ℕ) (short : l
 
   pub slot-put : SlotPut ws bs vs cs i (recOf h l)
   slot-put = record { words = p .size; labels = q .size; slot = slot-is; others = other-is; head = λ j m. p .low j (omega arith) }
+
+-- The same, told as a splice
+pub slot-filled : (ws bs vs cs : List ℕ) (at : ℕ) (h : Head) (l : List ℕ) (start span : ℕ) (w : Num) → HeadOf h start (length l) w span
+    → SlotPut ws bs vs cs at (recOf h l) → Filled ws bs vs cs at (bareOf start l w) × (spanOf vs at ≡ span)
+unfolding recAt
+slot-filled ws bs vs cs at h l start span w o p =
+    let num : numOf (h .has) (h .number .0) ≡ w = rw (o .has-is, o .number-is) (num-read w) in (
+      record {
+        lenW = p .words;
+        lenB = p .labels;
+        head = p .head;
+        slot = bare-of vs cs at (recOf h l) (p .slot) ∙ rw (o .start-is, o .len-is, num, o .has-is);
+        others = λ i ne r. bare-of vs cs i (recAt ws bs i) (p .others i ne) ∙ sym (bare-of ws bs i (recAt ws bs i) refl);
+        spans = λ i ne. ap (λ (x : Rec). x .span) (p .others i ne);
+      },
+      ap (λ (x : Rec). x .span) (p .slot) ∙ o .span-is,
+    )
 
 -- The count of nodes is in no slot.
 pub nodes-put : (ws bs : List ℕ) (n k : ℕ) → recAt (set ws 0 n) bs k ≡ recAt ws bs k

@@ -1,7 +1,7 @@
 -- Slots moved, written and filled: what each slot says afterwards. Assumes nothing.
-use mathlib.Core.Path.{_≡_, refl, sym, ap, _∙_, subst}
+use mathlib.Core.Path.{_≡_, refl, ap, _∙_}
 use mathlib.Core.List.{List, [], _∷_, _++_}
-use mathlib.Core.Option.{Option, none, some}
+use mathlib.Core.Option.{none, some}
 use Prim.Native.Nat.{ℕ, zero, suc, _+_, _*_, _-_, _≤_, _<_}
 use native.Mathlib.Omega.{arith}
 use lib.ListN.{length, getD, set, take, drop, length-set, length-take, length-drop, length-append, List·getD-append}
@@ -11,8 +11,8 @@ use Rattle.tree.specs.Tree.{keysW}
 use borrow.Rule.Slice.PartMut.{putMid, post-is}
 use Rattle.label.specs.Runs.{MovedUp}
 use Rattle.label.proofs.Moves.{by-lt}
-use Rattle.pool.specs.Layout.{startOf, lenOf, hasOf, numberOf, spanOf, labelOf, numOf, numAt}
-use Rattle.pool.specs.Splice.{Bare, bareAt, Relinked, Settled, Room, Moved, numberWord, headPut, labelPut, bareOf, Filled}
+use Rattle.pool.specs.Layout.{startOf, lenOf, hasOf, numberOf, spanOf, labelOf, numOf}
+use Rattle.pool.specs.Splice.{bareAt, Relinked, Settled, Room, Moved, numberWord, headPut, bareOf, Filled}
 
 -- m places of a list from place a on
 abbrev pub block : List ℕ → ℕ → ℕ → List ℕ
@@ -75,22 +75,20 @@ slots-moved ws bs vs cs from to k r s t =
     }
 
 -- A run of stores, place by place
-sets-low : (l : List ℕ) (i : ℕ) (vs : List ℕ) (j : ℕ) → j < i → getD (sets l i vs) j 0 ≡ getD l j 0
+pub sets-low : (l : List ℕ) (i : ℕ) (vs : List ℕ) (j : ℕ) → j < i → getD (sets l i vs) j 0 ≡ getD l j 0
 sets-low l i [] j h = refl
 sets-low l i (v ∷ vs) j h = sets-low (set l i v) (suc i) vs j (omega arith) ∙ getD-set-other l i j v 0 (λ e. omega arith)
 
-sets-high : (l : List ℕ) (i : ℕ) (vs : List ℕ) (j : ℕ) → i + length vs ≤ j → getD (sets l i vs) j 0 ≡ getD l j 0
+pub sets-high : (l : List ℕ) (i : ℕ) (vs : List ℕ) (j : ℕ) → i + length vs ≤ j → getD (sets l i vs) j 0 ≡ getD l j 0
 sets-high l i [] j h = refl
 sets-high l i (v ∷ vs) j h = sets-high (set l i v) (suc i) vs j (omega arith) ∙ getD-set-other l i j v 0 (λ e. omega arith)
 
-sets-mid : (l : List ℕ) (i : ℕ) (vs : List ℕ) (j : ℕ) → i + length vs ≤ length l → j < length vs → getD (sets l i vs) (i + j) 0 ≡ getD vs j 0
-sets-mid l i [] j r h = absurd (omega arith)
-sets-mid l i (v ∷ vs) zero r h =
-    let e : i + zero ≡ i = omega arith in
-    rw e (sets-low (set l i v) (suc i) vs i (omega arith) ∙ getD-set-same l i v 0 (omega arith))
-sets-mid l i (v ∷ vs) (suc j) r h =
-    let e : i + suc j ≡ suc i + j = omega arith in
-    rw e (sets-mid (set l i v) (suc i) vs j (rw length-set (omega arith)) (omega arith))
+pub sets-mid : (l : List ℕ) (i : ℕ) (vs : List ℕ) (j k : ℕ) → i + length vs ≤ length l → j < length vs → k ≡ i + j → getD (sets l i vs) k 0 ≡ getD vs j 0
+sets-mid l i [] j k r h e = absurd (omega arith)
+sets-mid l i (v ∷ vs) zero k r h e =
+    let q : k ≡ i = omega arith in
+    rw q (sets-low (set l i v) (suc i) vs i (omega arith) ∙ getD-set-same l i v 0 (omega arith))
+sets-mid l i (v ∷ vs) (suc j) k r h e = sets-mid (set l i v) (suc i) vs j k (rw length-set (omega arith)) (omega arith) (omega arith)
 
 -- The stores of the code, one after another
 pub head-eq : (ws : List ℕ) (i start len : ℕ) (w : Num) (has number : ℕ) → has ≡ keysW w → number ≡ numberWord w
@@ -111,6 +109,10 @@ head-span ws at start len w i =
 
 pub head-kept : (ws vs : List ℕ) (at start len : ℕ) (w : Num) → vs ≡ headPut ws at start len w → spanOf vs at ≡ spanOf ws at
 head-kept ws vs at start len w e = ap (λ (z : List ℕ). spanOf z at) e ∙ head-span ws at start len w at
+
+-- A slot's label put
+unfoldable pub labelPut : (bs : List ℕ) (i : ℕ) (l : List ℕ) → List ℕ
+labelPut bs i l = take (255 * i) bs ++ (l ++ drop (255 * i + length l) bs)
 
 -- A part of the labels filled is the label put.
 pub label-put-eq : (bs : List ℕ) (i : ℕ) (l ys : List ℕ) → ys ≡ l → putMid (255 * i) (255 * i + length l - 255 * i) bs ys ≡ labelPut bs i l
@@ -156,7 +158,7 @@ module _ (bs : List ℕ) (i : ℕ) (l : List ℕ) (fits : 255 * i + length l ≤
       ∙ at-place bs (omega arith)
 
   -- the label that is then there
-  put-label-is : length l ≤ 255 → 255 * i + 255 ≤ length bs → take (length l) (take 255 (drop (255 * i) (labelPut bs i l))) ≡ l
+  pub put-label-is : length l ≤ 255 → 255 * i + 255 ≤ length bs → take (length l) (take 255 (drop (255 * i) (labelPut bs i l))) ≡ l
   put-label-is h r =
       let c = labelPut bs i l in
       take-take (length l) 255 (drop (255 * i) c) h
@@ -167,7 +169,7 @@ module _ (bs : List ℕ) (i : ℕ) (l : List ℕ) (fits : 255 * i + length l ≤
       getD-take (length l) (drop (255 * i) c) j 0 g ∙ getD-drop (255 * i) c j 0 ∙ put-mid j g)
 
 -- has and number read back
-num-read : (w : Num) → numOf (keysW w) (numberWord w) ≡ w
+pub num-read : (w : Num) → numOf (keysW w) (numberWord w) ≡ w
 unfolding numOf keysW
 num-read none = refl
 num-read (some v) = refl
@@ -177,18 +179,18 @@ module _ (ws bs : List ℕ) (at start : ℕ) (l : List ℕ) (w : Num) (inW : 6 *
   abbrev new : List ℕ
   new = start ∷ length l ∷ keysW w ∷ numberWord w ∷ []
 
-  word : (o : ℕ) → o < 4 → getD (headPut ws at start (length l) w) (6 * at + 8 + o) 0 ≡ getD new o 0
+  word : (o k : ℕ) → o < 4 → k ≡ 6 * at + 8 + o → getD (headPut ws at start (length l) w) k 0 ≡ getD new o 0
   unfolding headPut
-  word o h = sets-mid ws (6 * at + 8) new o (omega arith) h
+  word o k h e = sets-mid ws (6 * at + 8) new o k (omega arith) h e
 
   filled-slot : bareAt (headPut ws at start (length l) w) (labelPut bs at l) at ≡ bareOf start l w
   unfolding bareAt
   filled-slot =
       let us = headPut ws at start (length l) w in
-      let w₀ : startOf us at ≡ start = at-place us (omega arith) ∙ word 0 (omega arith) in
-      let w₁ : lenOf us at ≡ length l = at-place us (omega arith) ∙ word 1 (omega arith) in
-      let w₂ : hasOf us at ≡ keysW w = at-place us (omega arith) ∙ word 2 (omega arith) in
-      let w₃ : numberOf us at ≡ numberWord w = at-place us (omega arith) ∙ word 3 (omega arith) in
+      let w₀ : startOf us at ≡ start = word 0 (6 * at + 8) (omega arith) (omega arith) in
+      let w₁ : lenOf us at ≡ length l = word 1 (6 * at + 9) (omega arith) (omega arith) in
+      let w₂ : hasOf us at ≡ keysW w = word 2 (6 * at + 10) (omega arith) (omega arith) in
+      let w₃ : numberOf us at ≡ numberWord w = word 3 (6 * at + 11) (omega arith) (omega arith) in
       rw (w₀, w₁, w₂, w₃, num-read w, put-label-is bs at l (omega arith) short inB)
 
   pub filled : Filled ws bs (headPut ws at start (length l) w) (labelPut bs at l) at (bareOf start l w)
@@ -218,25 +220,6 @@ module _ (ws bs : List ℕ) (at start : ℕ) (l : List ℕ) (w : Num) (inW : 6 *
 pub filled-by : (ws bs vs cs : List ℕ) (at start : ℕ) (l : List ℕ) (w : Num) → 6 * at + 14 ≤ length ws → 255 * at + 255 ≤ length bs → length l ≤ 255
     → vs ≡ headPut ws at start (length l) w → cs ≡ labelPut bs at l → Filled ws bs vs cs at (bareOf start l w)
 filled-by ws bs vs cs at start l w inW inB short v c = rw (v, c) (filled ws bs at start l w inW inB short)
-
--- with its span
-pub filled-linked : (ws bs us vs cs : List ℕ) (at s : ℕ) (x : Bare) → 6 * at + 14 ≤ length ws → Filled ws bs us cs at x → vs ≡ set us (6 * at + 12) s
-    → Filled ws bs vs cs at x × (spanOf vs at ≡ s)
-filled-linked ws bs us vs cs at s x r f e =
-    let same : (i : ℕ) → bareAt vs cs i ≡ bareAt us cs i =
-    λ i.
-    bare-eq vs cs us cs i i
-    (λ o l. ap (λ (z : List ℕ). getD z (6 * i + (8 + o)) 0) e ∙ getD-set-other us (6 * at + 12) (6 * i + (8 + o)) s 0 (λ q. omega arith)) refl in (
-      record {
-        lenW = ap length e ∙ length-set us (6 * at + 12) s ∙ f .lenW;
-        lenB = f .lenB;
-        head = λ j l. ap (λ (z : List ℕ). getD z j 0) e ∙ getD-set-other us (6 * at + 12) j s 0 (λ q. omega arith) ∙ f .head j l;
-        slot = same at ∙ f .slot;
-        others = λ i ne l. same i ∙ f .others i ne l;
-        spans = λ i ne. ap (λ (z : List ℕ). spanOf z i) e ∙ getD-set-other us (6 * at + 12) (6 * i + 12) s 0 (λ q. ne (omega arith)) ∙ f .spans i ne;
-      },
-      ap (λ (z : List ℕ). spanOf z at) e ∙ getD-set-same us (6 * at + 12) s 0 (omega (arith, f .lenW)),
-    )
 
 -- A splice settled: only word 0 and the spans have changed.
 pub settled : (ws us vs : List ℕ) (n : ℕ) → 1 ≤ length ws → us ≡ set ws 0 n → Relinked us vs n → Settled ws vs n

@@ -14,6 +14,7 @@ use Rattle.tree.specs.Map.{Num}
 use Rattle.tree.specs.Tree.{Forest, nil, node, Tree, keysW}
 use Rattle.pool.specs.Layout.{nodesOf, startOf, lenOf, hasOf, spanOf, labelOf, numAt}
 use Rattle.pool.specs.Records.{run}
+use Rattle.pool.specs.declared.put.Head.{Head}
 use Rattle.pool.specs.declared.splice.Stored.{Stored}
 
 -- A record without its span
@@ -97,9 +98,13 @@ numberWord (some v) = v
 unfoldable pub headPut : (ws : List ℕ) (i start len : ℕ) → Num → List ℕ
 headPut ws i start len w = sets ws (6 * i + 8) (start ∷ len ∷ keysW w ∷ numberWord w ∷ [])
 
--- A slot's label
-unfoldable pub labelPut : (bs : List ℕ) (i : ℕ) (l : List ℕ) → List ℕ
-labelPut bs i l = take (255 * i) bs ++ (l ++ drop (255 * i + length l) bs)
+-- A slot's words with its span
+pub record HeadOf (h : Head) (start len : ℕ) (w : Num) (span : ℕ) : Type 0 where
+  pub start-is : h .start ≡ start
+  pub len-is : h .len ≡ len
+  pub has-is : h .has ≡ keysW w
+  pub number-is : h .number .0 ≡ numberWord w
+  pub span-is : h .span ≡ span
 
 -- What a slot with the label l and the number w says
 abbrev pub bareOf : (start : ℕ) (l : List ℕ) → Num → Bare

@@ -5,8 +5,10 @@ ghost use mathlib.Core.List.{List};
 ghost use Prim.Native.Nat.{ℕ, _+_, _*_, _-_, _≤_, _<_};
 ghost use lib.ListN.{length, set};
 ghost use Rattle.pool.specs.Layout.{nodesOf, startOf, lenOf, spanOf, numAt};
-ghost use Rattle.pool.specs.Splice.{reach, Linked, Relinked, Settled, Room, Moved, storedOf, headPut, labelPut, bareOf, bareAt, frontOf, backOf, Filled, LabelIn, Swept, Closed};
+ghost use Rattle.pool.specs.Splice.{reach, Linked, Relinked, Settled, Room, Moved, storedOf, headPut, HeadOf, bareOf, bareAt, frontOf, backOf, Filled, LabelIn, Swept, Closed};
 ghost use Rattle.pool.specs.Spans.{Loose, Raised};
+use crate::put::Head;
+use crate::put::put_slot;
 use tree::RuleNo;
 use tree::Slot;
 
@@ -137,33 +139,33 @@ pub fn put_head(words: &mut [u32], at: Slot, start: usize, len: usize, stored: S
     }
 }
 
-// Writes a slot's label.
-fn put_label(labels: &mut [u8], at: Slot, bytes: &[u8])
-    requires { ⌜ (255 * at .0 + 255 ≤ length (now labels)) × (length (now bytes) ≤ 255) ⌝ }
-    ensures { λ _. ⌜ now (labels .exit) ≡ labelPut (now (labels .entry)) (at .0) (now (bytes .entry)) ⌝ }
+// The words of a slot: a node under a path of `start` bytes, with a label of `len` bytes and its number.
+fn head_of(start: usize, len: usize, stored: Stored, span: usize) -> Head
+    requires { ⌜ (start < 4294967296) × (len < 4294967296) × (span < 4294967296) ⌝ }
+    ensures { λ r. ⌜ HeadOf r start len (storedOf stored) span ⌝ }
 {
-    let from = 255 * at.0;
-    let to = from + bytes.len();
-    label::copy(&mut labels[from..to], bytes);
+    let start = start as u32;
+    let len = len as u32;
+    let span = span as u32;
+    match stored {
+        Stored::Nothing => Head {
+            start,
+            len,
+            has: 0,
+            number: RuleNo(0),
+            span,
+        },
+        Stored::Number(number) => Head {
+            start,
+            len,
+            has: 1,
+            number,
+            span,
+        },
+    }
 }
 
-// Fills a slot but for its span: a node under a path of `start` bytes, with its label and number.
-pub fn put_node(
-    labels: &mut [u8],
-    words: &mut [u32],
-    at: Slot,
-    start: usize,
-    bytes: &[u8],
-    stored: Stored,
-)
-    requires { ⌜ (6 * at .0 + 14 ≤ length (now words)) × (255 * at .0 + 255 ≤ length (now labels)) × (start ≤ 4096) × (length (now bytes) ≤ 255) ⌝ }
-    ensures { λ _. ⌜ Filled (now (words .entry)) (now (labels .entry)) (now (words .exit)) (now (labels .exit)) (at .0) (bareOf start (now (bytes .entry)) (storedOf stored)) ⌝ }
-{
-    put_head(words, at, start, bytes.len(), stored);
-    put_label(labels, at, bytes);
-}
-
-// Fills a slot whole, with its span.
+// Fills a slot whole, with its span: `put_slot`, told as a splice.
 pub fn put_linked(
     labels: &mut [u8],
     words: &mut [u32],
@@ -176,8 +178,8 @@ pub fn put_linked(
     requires { ⌜ (6 * at .0 + 14 ≤ length (now words)) × (255 * at .0 + 255 ≤ length (now labels)) × (start ≤ 4096) × (length (now bytes) ≤ 255) × (span < 4294967296) ⌝ }
     ensures { λ _. ⌜ Filled (now (words .entry)) (now (labels .entry)) (now (words .exit)) (now (labels .exit)) (at .0) (bareOf start (now (bytes .entry)) (storedOf stored)) × (spanOf (now (words .exit)) (at .0) ≡ span) ⌝ }
 {
-    put_node(labels, words, at, start, bytes, stored);
-    set_span(words, at, span);
+    let head = head_of(start, bytes.len(), stored, span);
+    put_slot(labels, words, at, head, bytes);
 }
 
 // The number at a slot, if it has one.
