@@ -15,50 +15,64 @@ pub by-eq : {C : Type 0} (a b : ℕ) → (a ≡ b → C) → ((a ≡ b → ⊥) 
 by-eq a b f g = by-lt a b (λ l. g (λ e. omega arith)) (λ l. by-lt b a (λ m. g (λ e. omega arith)) (λ m. f (omega arith)))
 
 -- Upwards, from the top: i is the lowest place moved so far.
-pub up-none : (ws : List ℕ) (to k : ℕ) → MovedUp ws ws to to k
-up-none ws to k = record { len = refl; low = λ j h. refl; mid = λ j h l. absurd (omega arith); high = λ j h. refl }
+abbrev pub Rising : (ws vs : List ℕ) (from to k i : ℕ) → Type 0
+Rising ws vs from to k i = (from ≤ i) × (i ≤ to) × MovedUp ws vs i to k
 
-pub up-step : (ws vs : List ℕ) (i to k : ℕ) → 0 < i → i ≤ to → to + k ≤ length ws → MovedUp ws vs i to k
-    → MovedUp ws (set vs (i - 1 + k) (getD vs (i - 1) 0)) (i - 1) to k
-up-step ws vs i to k pos top room s =
+pub up-none : (ws : List ℕ) (from to k : ℕ) → from ≤ to → Rising ws ws from to k to
+up-none ws from to k h = (h, omega arith, record { len = refl; low = λ j h. refl; mid = λ j h l. absurd (omega arith); high = λ j h. refl })
+
+pub up-step : (ws vs : List ℕ) (from to k i : ℕ) → from < i → to + k ≤ length ws → Rising ws vs from to k i
+    → Rising ws (set vs (i - 1 + k) (getD vs (i - 1) 0)) from to k (i - 1)
+up-step ws vs from to k i left room inv =
     let there = i - 1 + k in
     let v = getD vs (i - 1) 0 in
-    record {
-      len = length-set vs there v ∙ s .len;
-      low = λ j h. getD-set-other vs there j v 0 (λ e. omega arith) ∙ s .low j (omega arith);
-      mid = λ j h l.
-          by-eq j (i - 1)
-          (λ e. rw e (getD-set-same vs there v 0 (omega (arith, s .len)) ∙ s .low (i - 1) (omega arith)))
-          (λ n. getD-set-other vs there (j + k) v 0 (λ e. n (omega arith)) ∙ s .mid j (omega arith) l);
-      high = λ j h. getD-set-other vs there j v 0 (λ e. omega arith) ∙ s .high j h;
-    }
+    let s = inv .2 in (
+      omega arith,
+      omega arith,
+      record {
+        len = length-set vs there v ∙ s .len;
+        low = λ j h. getD-set-other vs there j v 0 (λ e. omega arith) ∙ s .low j (omega arith);
+        mid = λ j h l.
+            by-eq j (i - 1)
+            (λ e. rw e (getD-set-same vs there v 0 (omega (arith, s .len)) ∙ s .low (i - 1) (omega arith)))
+            (λ n. getD-set-other vs there (j + k) v 0 (λ e. n (omega arith)) ∙ s .mid j (omega arith) l);
+        high = λ j h. getD-set-other vs there j v 0 (λ e. omega arith) ∙ s .high j h;
+      },
+    )
 
-pub up-done : {ws vs : List ℕ} {i from to k : ℕ} → i ≡ from → MovedUp ws vs i to k → MovedUp ws vs from to k
-up-done {ws} {vs} {i} {from} {to} {k} e s = subst (λ (x : ℕ). MovedUp ws vs x to k) e s
+pub up-done : {ws vs : List ℕ} {from to k i : ℕ} → i ≤ from → Rising ws vs from to k i → MovedUp ws vs from to k
+up-done {ws} {vs} {from} {to} {k} {i} h inv = let e : i ≡ from = omega arith in subst (λ (x : ℕ). MovedUp ws vs x to k) e (inv .2)
 
 -- Downwards, from the bottom: i is the first place not moved yet.
-pub down-none : (ws : List ℕ) (from k : ℕ) → MovedDown ws ws from from k
-down-none ws from k = record { len = refl; low = λ j h. refl; mid = λ j h l. absurd (omega arith); high = λ j h. refl }
+abbrev pub Sinking : (ws vs : List ℕ) (from to k i : ℕ) → Type 0
+Sinking ws vs from to k i = (from ≤ i) × (i ≤ to) × MovedDown ws vs from i k
 
-pub down-step : (ws vs : List ℕ) (from i k : ℕ) → k ≤ from → from ≤ i → i < length ws → MovedDown ws vs from i k
-    → MovedDown ws (set vs (i - k) (getD vs i 0)) from (i + 1) k
-down-step ws vs from i k low order room s =
+pub down-none : (ws : List ℕ) (from to k : ℕ) → from ≤ to → Sinking ws ws from to k from
+down-none ws from to k h = (omega arith, h, record { len = refl; low = λ j h. refl; mid = λ j h l. absurd (omega arith); high = λ j h. refl })
+
+pub down-step : (ws vs : List ℕ) (from to k i : ℕ) → k ≤ from → i < to → to ≤ length ws → Sinking ws vs from to k i
+    → Sinking ws (set vs (i - k) (getD vs i 0)) from to k (i + 1)
+down-step ws vs from to k i low left room inv =
     let there = i - k in
     let v = getD vs i 0 in
-    record {
-      len = length-set vs there v ∙ s .len;
-      low = λ j h. getD-set-other vs there j v 0 (λ e. omega arith) ∙ s .low j h;
-      mid = λ j h l.
-          by-eq j there
-          (λ e.
-          let q : i ≡ j + k = omega arith in
-          rw (← q, e) (getD-set-same vs there v 0 (omega (arith, s .len)) ∙ s .high i (omega arith)))
-          (λ n. getD-set-other vs there j v 0 n ∙ s .mid j h (by-lt (j + k) i (λ m. m) (λ m. absurd (n (omega arith)))));
-      high = λ j h. getD-set-other vs there j v 0 (λ e. omega arith) ∙ s .high j (omega arith);
-    }
+    let s = inv .2 in (
+      omega arith,
+      omega arith,
+      record {
+        len = length-set vs there v ∙ s .len;
+        low = λ j h. getD-set-other vs there j v 0 (λ e. omega arith) ∙ s .low j h;
+        mid = λ j h l.
+            by-eq j there
+            (λ e.
+            let q : i ≡ j + k = omega arith in
+            rw (← q, e) (getD-set-same vs there v 0 (omega (arith, s .len)) ∙ s .high i (omega arith)))
+            (λ n. getD-set-other vs there j v 0 n ∙ s .mid j h (by-lt (j + k) i (λ m. m) (λ m. absurd (n (omega arith)))));
+        high = λ j h. getD-set-other vs there j v 0 (λ e. omega arith) ∙ s .high j (omega arith);
+      },
+    )
 
-pub down-done : {ws vs : List ℕ} {from i to k : ℕ} → i ≡ to → MovedDown ws vs from i k → MovedDown ws vs from to k
-down-done {ws} {vs} {from} {i} {to} {k} e s = subst (λ (x : ℕ). MovedDown ws vs from x k) e s
+pub down-done : {ws vs : List ℕ} {from to k i : ℕ} → to ≤ i → Sinking ws vs from to k i → MovedDown ws vs from to k
+down-done {ws} {vs} {from} {to} {k} {i} h inv = let e : i ≡ to = omega arith in subst (λ (x : ℕ). MovedDown ws vs from x k) e (inv .2)
 
 -- A copy: the places below i are those of the source.
 pub record Filled (vs from : List ℕ) (i : ℕ) : Type 0 where
