@@ -12,37 +12,8 @@ Inv-loop image₀ numbers n at₀ image at = (length image ≡ length image₀) 
 abbrev μ-loop : tie.MeasureT-loop
 μ-loop image₀ numbers n at₀ image at = n - at
 
-loop-holds : tie.Need-loop-holds Inv-loop μ-loop
-loop-holds c = (omega arith, omega arith)
-
-place-requires : tie.Need-place-requires Inv-loop μ-loop
-place-requires c κs = omega arith
-
-add-at : tie.Need-add-at Inv-loop μ-loop
-add-at c = omega arith
-
-loop-less : tie.Need-loop-less Inv-loop μ-loop
-loop-less c = omega arith
-
-loop-again : tie.Need-loop-again Inv-loop μ-loop
-loop-again c = (omega arith, omega arith)
-
-same-length : tie.Need-same-length Inv-loop μ-loop
-same-length c = omega arith
-
-returns : tie.Need-returns Inv-loop μ-loop
-returns c = omega arith
-
 pub changes-spec : {M : Type 1} → statement M
 changes-spec =
     tie.close
-    (tie.spec
-    Inv-loop
-    μ-loop
-    loop-holds
-    place-requires
-    add-at
-    loop-less
-    loop-again
-    same-length
-    returns)
+    (tie.spec Inv-loop μ-loop (λ c. (omega arith, omega arith)) (λ c κs. omega arith) (λ c. omega arith) (λ c. omega arith)
+    (λ c. (omega arith, omega arith)) (λ c. omega arith) (λ c. omega arith))

@@ -11,37 +11,8 @@ Inv-loop image numbers n₀ n = n ≤ length image
 abbrev μ-loop : tie.MeasureT-loop
 μ-loop image numbers n₀ n = length image - n
 
-loop-holds : tie.Need-loop-holds Inv-loop μ-loop
-loop-holds c = omega arith
-
-cut-requires : tie.Need-cut-requires Inv-loop μ-loop
-cut-requires c κs = omega arith
-
-add-n : tie.Need-add-n Inv-loop μ-loop
-add-n c = omega arith
-
-loop-less : tie.Need-loop-less Inv-loop μ-loop
-loop-less c = omega arith
-
-loop-again : tie.Need-loop-again Inv-loop μ-loop
-loop-again c = omega arith
-
-cut-requires-2 : tie.Need-cut-requires-2 Inv-loop μ-loop
-cut-requires-2 c κs = omega arith
-
-returns : tie.Need-returns Inv-loop μ-loop
-returns c = omega arith
-
 pub cuts-spec : {M : Type 1} → statement M
 cuts-spec =
     tie.close
-    (tie.spec
-    Inv-loop
-    μ-loop
-    loop-holds
-    cut-requires
-    add-n
-    loop-less
-    loop-again
-    cut-requires-2
-    returns)
+    (tie.spec Inv-loop μ-loop (λ c. omega arith) (λ c κs. omega arith) (λ c. omega arith) (λ c. omega arith) (λ c. omega arith) (λ c κs. omega arith)
+    (λ c. omega arith))

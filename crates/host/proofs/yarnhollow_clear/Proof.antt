@@ -5,20 +5,8 @@ use borrow.Author.Needs.{needs}
 use Rattle.host.proofs.yarnhollow_clear.Statement.{statement}
 use Rattle.host.proofs.yarnhollow_clear.Tie as tie
 
-clear-requires : tie.Need-clear-requires
-clear-requires c κs = search needs
-
-number-requires : tie.Need-number-requires
-number-requires c κs = search needs
-
-same-length : tie.Need-same-length
-same-length c = search needs
-
-same-length-2 : tie.Need-same-length-2
-same-length-2 c = search needs
-
 returns : tie.Need-returns
 returns c = changes _ (c .before .before .before .before .before .clear .ensures) (returns-none (emptiedTold (c .before .before .before .before .before .clear .result)) (c .number .ensures))
 
 pub yarnhollow-clear-spec : {M : Type 1} → statement M
-yarnhollow-clear-spec = tie.close (tie.spec clear-requires number-requires same-length same-length-2 returns)
+yarnhollow-clear-spec = tie.close (tie.spec (λ c κs. search needs) (λ c κs. search needs) (λ c. search needs) (λ c. search needs) returns)

@@ -5,17 +5,8 @@ use borrow.Author.Needs.{needs}
 use Rattle.host.proofs.yarnhollow_get.Statement.{statement}
 use Rattle.host.proofs.yarnhollow_get.Tie as tie
 
-get-requires : tie.Need-get-requires
-get-requires c κs = search needs
-
-got-number-requires : tie.Need-got-number-requires
-got-number-requires c κs = search needs
-
-number-requires : tie.Need-number-requires
-number-requires c κs = search needs
-
 returns : tie.Need-returns
 returns c = returned (c .before .before .before .get .ensures) (returns-one (gotTold (c .before .before .before .get .result)) (c .number .ensures) (c .before .got-number .ensures))
 
 pub yarnhollow-get-spec : {M : Type 1} → statement M
-yarnhollow-get-spec = tie.close (tie.spec get-requires got-number-requires number-requires returns)
+yarnhollow-get-spec = tie.close (tie.spec (λ c κs. search needs) (λ c κs. search needs) (λ c κs. search needs) returns)

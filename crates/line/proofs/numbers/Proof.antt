@@ -7,20 +7,8 @@ use borrow.Author.Needs.{needs}
 use Rattle.line.proofs.numbers.Statement.{statement}
 use Rattle.line.proofs.numbers.Tie as tie
 
-slice-aggregate-same : tie.Need-slice-aggregate-same
-slice-aggregate-same c = search needs
-
-same-requires : tie.Need-same-requires
-same-requires c κs = search needs
-
 returns : tie.Need-returns
 returns c = inl (c .before .same .ensures .0 (c .if1 .taken), refl)
-
-many-requires : tie.Need-many-requires
-many-requires c κs = search needs
-
-same-length : tie.Need-same-length
-same-length c = search needs
 
 returns-2 : tie.Need-returns-2
 returns-2 c =
@@ -29,6 +17,4 @@ returns-2 c =
     list-taken (m .many .result) _ _ (other (at .before .same .ensures) (at .if1 .left)) (m .many .ensures)
 
 pub numbers-spec : {M : Type 1} → statement M
-numbers-spec =
-    tie.close
-    (tie.spec slice-aggregate-same same-requires returns many-requires same-length returns-2)
+numbers-spec = tie.close (tie.spec (λ c. search needs) (λ c κs. search needs) returns (λ c κs. search needs) (λ c. search needs) returns-2)

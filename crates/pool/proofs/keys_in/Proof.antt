@@ -14,20 +14,8 @@ Inv-loop words n keys₀ i₀ keys i = (i ≤ n) × (keys ≡ hasSum words i) ×
 abbrev μ-loop : tie.MeasureT-loop
 μ-loop words n keys₀ i₀ keys i = n - i
 
-loop-holds : tie.Need-loop-holds Inv-loop μ-loop
-loop-holds c = unfold hasSum in omega arith
-
-has-at-requires : tie.Need-has-at-requires Inv-loop μ-loop
-has-at-requires c κs = omega arith
-
 add-keys : tie.Need-add-keys Inv-loop μ-loop
 add-keys c = omega (arith, c .before .before .before .before .pre .2 (c .before .before .loop .i) (omega arith))
-
-add-i : tie.Need-add-i Inv-loop μ-loop
-add-i c = omega arith
-
-loop-less : tie.Need-loop-less Inv-loop μ-loop
-loop-less c = omega arith
 
 loop-again : tie.Need-loop-again Inv-loop μ-loop
 loop-again c =
@@ -41,13 +29,5 @@ returns c = c .before .loop .inv .1 ∙ ap (hasSum (c .before .before .before .a
 pub keys-in-spec : {M : Type 1} → statement M
 keys-in-spec =
     tie.close
-    (tie.spec
-    Inv-loop
-    μ-loop
-    loop-holds
-    has-at-requires
-    add-keys
-    add-i
-    loop-less
-    loop-again
-    returns)
+    (tie.spec Inv-loop μ-loop (λ c. unfold hasSum in omega arith) (λ c κs. omega arith) add-keys
+    (λ c. omega arith) (λ c. omega arith) loop-again returns)

@@ -34,15 +34,6 @@ meets c m e = node-means (here (c .before)) _ m (c .meet .ensures) e
 bytes : (c : tie.After-shared-slice-known Inv-loop μ-loop) → Bytes (c .before .args .labels .now)
 bytes c = bytes-of (c .before .args .labels .now) (c .shared-slice-known .given)
 
-nodes-in-requires : tie.Need-nodes-in-requires Inv-loop μ-loop
-nodes-in-requires c κs = omega arith
-
-best-at-requires : tie.Need-best-at-requires Inv-loop μ-loop
-best-at-requires c κs = omega arith
-
-landed-requires : tie.Need-landed-requires Inv-loop μ-loop
-landed-requires c κs = search needs
-
 returns : tie.Need-returns Inv-loop μ-loop
 returns c = rw (c .landed .ensures) (lands-root _ _ _ (c .before .before .before .before .before .before .before .pre .0) (bytes (c .before .before .before .before .before .before)) _ (c .before .if1 .taken) refl refl (c .before .before .best-at .ensures))
 
@@ -52,17 +43,8 @@ loop-holds c = seek-start _ _ _ (c .before .before .before .before .before .befo
 meet-requires : tie.Need-meet-requires Inv-loop μ-loop
 meet-requires c κs = (here c .within, omega (arith, here c))
 
-enum-told : tie.Need-enum-told Inv-loop μ-loop
-enum-told c = search needs
-
-landed-requires-2 : tie.Need-landed-requires-2 Inv-loop μ-loop
-landed-requires-2 c κs = search needs
-
 returns-2 : tie.Need-returns-2 Inv-loop μ-loop
 returns-2 c = rw (c .landed2 .ensures) (lands-before _ (here (c .before .before .before .before)) refl (meets (c .before .before .before) Meeting.Before (c .before .enum-told .given .1)) refl)
-
-enum-told-2 : tie.Need-enum-told-2 Inv-loop μ-loop
-enum-told-2 c = search needs
 
 span-at-requires : tie.Need-span-at-requires Inv-loop μ-loop
 span-at-requires c κs = here (c .before .before .before) .within .words
@@ -76,38 +58,17 @@ loop-less c = omega (arith, here (c .before .before .before .before))
 loop-again : tie.Need-loop-again Inv-loop μ-loop
 loop-again c = seek-over (here (c .before .before .before .before)) _ (c .span-at .ensures .0) (meets (c .before .before .before) Meeting.Past (c .before .enum-told2 .given .1))
 
-enum-told-3 : tie.Need-enum-told-3 Inv-loop μ-loop
-enum-told-3 c = search needs
-
 best-at-requires-2 : tie.Need-best-at-requires-2 Inv-loop μ-loop
 best-at-requires-2 c κs = here (c .before .before .before) .within .words
-
-landed-requires-3 : tie.Need-landed-requires-3 Inv-loop μ-loop
-landed-requires-3 c κs = search needs
 
 returns-3 : tie.Need-returns-3 Inv-loop μ-loop
 returns-3 c = rw (c .landed3 .ensures) (lands-same _ (here (c .before .before .before .before .before)) (c .before .best-at2 .ensures) (meets (c .before .before .before .before) Meeting.Same (c .before .before .enum-told3 .given .1)) refl)
 
-enum-known-m : tie.Need-enum-known-m Inv-loop μ-loop
-enum-known-m c = search needs
-
-landed-requires-4 : tie.Need-landed-requires-4 Inv-loop μ-loop
-landed-requires-4 c κs = search needs
-
 returns-4 : tie.Need-returns-4 Inv-loop μ-loop
 returns-4 c = rw (c .landed4 .ensures) (lands-inside _ (here (c .before .before .before .before .before)) _ refl (meets (c .before .before .before .before) (Meeting.Inside _) (c .before .before .m .given .1)) refl)
 
-enum-known-m-2 : tie.Need-enum-known-m-2 Inv-loop μ-loop
-enum-known-m-2 c = search needs
-
-landed-requires-5 : tie.Need-landed-requires-5 Inv-loop μ-loop
-landed-requires-5 c κs = search needs
-
 returns-5 : tie.Need-returns-5 Inv-loop μ-loop
 returns-5 c = rw (c .landed5 .ensures) (lands-fork _ (here (c .before .before .before .before .before)) _ refl (meets (c .before .before .before .before) (Meeting.Fork _) (c .before .before .m2 .given .1)) refl)
-
-enum-known-m-3 : tie.Need-enum-known-m-3 Inv-loop μ-loop
-enum-known-m-3 c = search needs
 
 add-best-at : tie.Need-add-best-at Inv-loop μ-loop
 add-best-at c = omega (arith, through-left (here (c .before .before .before .before)) _ (meets (c .before .before .before) (Meeting.Through _) (c .before .m3 .given .1)))
@@ -133,50 +94,16 @@ loop-less-2 c = omega (arith, here (c .before .before .before .before .before .b
 loop-again-2 : tie.Need-loop-again-2 Inv-loop μ-loop
 loop-again-2 c = seek-down (here (c .before .before .before .before .before .before)) _ (c .span-at2 .ensures .0) _ (meets (c .before .before .before .before .before) (Meeting.Through _) (c .before .before .before .m3 .given .1)) _ (c .before .best-at3 .ensures)
 
-landed-requires-6 : tie.Need-landed-requires-6 Inv-loop μ-loop
-landed-requires-6 c κs = search needs
-
 returns-6 : tie.Need-returns-6 Inv-loop μ-loop
 returns-6 c = rw (c .landed6 .ensures) (lands-last _ (c .before .before .loop .inv) (c .before .loop-test .left) refl)
 
 pub descend-spec : {M : Type 1} → statement M
 descend-spec =
     tie.close
-    (tie.spec
-    Inv-loop
-    μ-loop
-    nodes-in-requires
-    best-at-requires
-    landed-requires
-    returns
-    loop-holds
-    meet-requires
-    enum-told
-    landed-requires-2
-    returns-2
-    enum-told-2
-    span-at-requires
-    add-c
-    loop-less
-    loop-again
-    enum-told-3
-    best-at-requires-2
-    landed-requires-3
-    returns-3
-    enum-known-m
-    landed-requires-4
-    returns-4
-    enum-known-m-2
-    landed-requires-5
-    returns-5
-    enum-known-m-3
-    add-best-at
-    best-at-requires-3
-    span-at-requires-2
-    add-end
-    add-p
-    add-c-2
-    loop-less-2
-    loop-again-2
-    landed-requires-6
-    returns-6)
+    (tie.spec Inv-loop μ-loop (λ c κs. omega arith) (λ c κs. omega arith) (λ c κs. search needs) returns
+    loop-holds meet-requires (λ c. search needs) (λ c κs. search needs) returns-2
+    (λ c. search needs) span-at-requires add-c loop-less loop-again
+    (λ c. search needs) best-at-requires-2 (λ c κs. search needs) returns-3
+    (λ c. search needs) (λ c κs. search needs) returns-4 (λ c. search needs) (λ c κs. search needs) returns-5
+    (λ c. search needs) add-best-at best-at-requires-3 span-at-requires-2
+    add-end add-p add-c-2 loop-less-2 loop-again-2 (λ c κs. search needs) returns-6)

@@ -9,50 +9,17 @@ use borrow.Author.Needs.{needs}
 use Rattle.search.proofs.meet.Statement.{statement}
 use Rattle.search.proofs.meet.Tie as tie
 
-shared-slice-read-cmp-first-item : tie.Need-shared-slice-read-cmp-first-item
-shared-slice-read-cmp-first-item c = search needs
-
-first-at-requires : tie.Need-first-at-requires
-first-at-requires c κs = search needs
-
-cmp-first-item-requires : tie.Need-cmp-first-item-requires
-cmp-first-item-requires c κs = search needs
-
-enum-told : tie.Need-enum-told
-enum-told c = search needs
-
 returns : tie.Need-returns
 returns c =
     let start = c .before .before .before .before .before .before .before .before in
     meets-below (start .args .words .now) (start .args .labels .now) (start .args .key .now) (start .args .c .0) (start .args .p) _ (start .pre .0) (start .pre .1) (c .before .before .before .first-at .ensures .0)
     (rw (c .enum-told .given .1) at (c .before .before .cmp-first-item .ensures))
 
-enum-told-2 : tie.Need-enum-told-2
-enum-told-2 c = search needs
-
 returns-2 : tie.Need-returns-2
 returns-2 c =
     let start = c .before .before .before .before .before .before .before .before in
     meets-above (start .args .words .now) (start .args .labels .now) (start .args .key .now) (start .args .c .0) (start .args .p) _ (start .pre .0) (start .pre .1) (c .before .before .before .first-at .ensures .0)
     (rw (c .enum-told2 .given .1) at (c .before .before .cmp-first-item .ensures))
-
-enum-told-3 : tie.Need-enum-told-3
-enum-told-3 c = search needs
-
-label-at-requires : tie.Need-label-at-requires
-label-at-requires c κs = search needs
-
-sub-rest : tie.Need-sub-rest
-sub-rest c = search needs
-
-part-rest-start : tie.Need-part-rest-start
-part-rest-start c = search needs
-
-part-rest-end : tie.Need-part-rest-end
-part-rest-end c = search needs
-
-shared-length-requires : tie.Need-shared-length-requires
-shared-length-requires c κs = search needs
 
 -- where the first bytes are the same: the two runs as the code compares them
 runs : (c : tie.After-shared-length)
@@ -80,21 +47,6 @@ returns-6 c = by-fork _ _ _ (c .before .if1 .left) (c .if3 .left) ∙ runs (c .b
 pub meet-spec : {M : Type 1} → statement M
 meet-spec =
     tie.close
-    (tie.spec
-    shared-slice-read-cmp-first-item
-    first-at-requires
-    cmp-first-item-requires
-    enum-told
-    returns
-    enum-told-2
-    returns-2
-    enum-told-3
-    label-at-requires
-    sub-rest
-    part-rest-start
-    part-rest-end
-    shared-length-requires
-    returns-3
-    returns-4
-    returns-5
-    returns-6)
+    (tie.spec (λ c. search needs) (λ c κs. search needs) (λ c κs. search needs) (λ c. search needs) returns
+    (λ c. search needs) returns-2 (λ c. search needs) (λ c κs. search needs) (λ c. search needs) (λ c. search needs) (λ c. search needs)
+    (λ c κs. search needs) returns-3 returns-4 returns-5 returns-6)

@@ -8,9 +8,6 @@ use Rattle.split.proofs.split_label.Tie as tie
 span-at-requires : tie.Need-span-at-requires
 span-at-requires c κs = inside-slot (c .before .before .before .before .before .pre .0)
 
-same-length : tie.Need-same-length
-same-length c = search needs
-
 returns : tie.Need-returns
 returns c = λ x. inside-full x (c .before .before .before .before .before .before .before .pre .1) (omega (arith, c .before .span-at .ensures .0, c .if1 .taken))
 
@@ -23,20 +20,11 @@ detach-label-requires c κs = let p = c .before .before .before .before .before 
 leave-requires : tie.Need-leave-requires
 leave-requires c κs = inside-leaves (c .before .before .before .before .before .before .before .before .before .before .before .before .before .before .before .before .before .before .pre .0)
 
-same-length-2 : tie.Need-same-length-2
-same-length-2 c = search needs
-
-same-length-3 : tie.Need-same-length-3
-same-length-3 c = search needs
-
-same-length-4 : tie.Need-same-length-4
-same-length-4 c = search needs
-
-same-length-5 : tie.Need-same-length-5
-same-length-5 c = search needs
-
 returns-2 : tie.Need-returns-2
 returns-2 c = λ x. inside-done x (c .before .before .before .before .before .before .before .before .before .before .before .before .before .before .before .before .before .before .before .before .before .before .before .pre .1) _ _ _ _ (omega (arith, c .before .before .before .before .before .before .before .before .before .before .before .before .before .before .before .before .before .span-at .ensures .0, c .before .before .before .before .before .before .before .before .before .before .before .before .before .before .before .before .if1 .left)) (c .before .before .before .before .before .before .before .before .before .before .before .detach-label .ensures) (c .before .before .before .before .leave .ensures (inside-leaves x))
 
 pub split-label-spec : {M : Type 1} → statement M
-split-label-spec = tie.close (tie.spec span-at-requires same-length returns detach-label-requires leave-requires same-length-2 same-length-3 same-length-4 same-length-5 returns-2)
+split-label-spec =
+    tie.close
+    (tie.spec span-at-requires (λ c. search needs) returns detach-label-requires
+    leave-requires (λ c. search needs) (λ c. search needs) (λ c. search needs) (λ c. search needs) returns-2)

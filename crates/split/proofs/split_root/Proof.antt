@@ -8,9 +8,6 @@ use Rattle.split.proofs.split_root.Tie as tie
 nodes-in-requires : tie.Need-nodes-in-requires
 nodes-in-requires c κs = root-nodes (c .before .before .before .before .before .pre .0) (c .before .before .before .before .before .pre .1) .0
 
-same-length : tie.Need-same-length
-same-length c = search needs
-
 returns : tie.Need-returns
 returns c = λ x. root-full x (c .before .before .before .before .before .before .before .pre .1) (omega (arith, c .before .nodes-in .ensures .0, c .if1 .taken))
 
@@ -22,20 +19,11 @@ detach-node-requires c κs = let p = c .before .before .before .before .before .
 write-empty-requires : tie.Need-write-empty-requires
 write-empty-requires c κs = root-nodes (c .before .before .before .before .before .before .before .before .before .before .before .before .before .before .before .before .before .pre .0) (c .before .before .before .before .before .before .before .before .before .before .before .before .before .before .before .before .before .pre .1) .1
 
-same-length-2 : tie.Need-same-length-2
-same-length-2 c = search needs
-
-same-length-3 : tie.Need-same-length-3
-same-length-3 c = search needs
-
-same-length-4 : tie.Need-same-length-4
-same-length-4 c = search needs
-
-same-length-5 : tie.Need-same-length-5
-same-length-5 c = search needs
-
 returns-2 : tie.Need-returns-2
 returns-2 c = λ x. root-done x (c .before .before .before .before .before .before .before .before .before .before .before .before .before .before .before .before .before .before .before .before .pre .1) _ _ _ (omega (arith, c .before .before .before .before .before .before .before .before .before .before .before .before .before .before .nodes-in .ensures .0, c .before .before .before .before .before .before .before .before .before .before .before .before .before .if1 .left)) (c .before .before .before .before .before .before .before .before .detach-node .ensures) (c .before .before .write-empty .ensures)
 
 pub split-root-spec : {M : Type 1} → statement M
-split-root-spec = tie.close (tie.spec nodes-in-requires same-length returns detach-node-requires write-empty-requires same-length-2 same-length-3 same-length-4 same-length-5 returns-2)
+split-root-spec =
+    tie.close
+    (tie.spec nodes-in-requires (λ c. search needs) returns detach-node-requires
+    write-empty-requires (λ c. search needs) (λ c. search needs) (λ c. search needs) (λ c. search needs) returns-2)

@@ -8,32 +8,8 @@ use borrow.Author.Needs.{needs}
 use Rattle.walk.proofs.lay.Statement.{statement}
 use Rattle.walk.proofs.lay.Tie as tie
 
-start-at-requires : tie.Need-start-at-requires
-start-at-requires c κs = search needs
-
-len-at-requires : tie.Need-len-at-requires
-len-at-requires c κs = search needs
-
-add-to : tie.Need-add-to
-add-to c = search needs
-
-sub-copy : tie.Need-sub-copy
-sub-copy c = search needs
-
-part-copy-start : tie.Need-part-copy-start
-part-copy-start c = search needs
-
-part-copy-end : tie.Need-part-copy-end
-part-copy-end c = search needs
-
-label-at-requires : tie.Need-label-at-requires
-label-at-requires c κs = search needs
-
 copy-requires : tie.Need-copy-requires
 copy-requires c κs = omega (arith, ap length (c .label-at .ensures), label-length (c .before .before .before .before .before .before .before .args .words .now) (c .before .before .before .before .before .before .before .args .labels .now) (c .before .before .before .before .before .before .before .args .at .0) (c .before .before .before .before .before .before .before .pre .short) (c .before .before .before .before .before .before .before .pre .labels))
-
-same-length : tie.Need-same-length
-same-length c = search needs
 
 returns : tie.Need-returns
 returns c = lay-done (c .before .before .before .before .before .before .before .before .before .before .pre) (c .before .before .before .before .before .before .start-at .ensures .0) (ap (λ (n : ℕ). c .before .before .before .before .before .before .start-at .result + n) (c .before .before .before .before .before .len-at .ensures .0)) (c .before .before .copy .ensures ∙ c .before .before .before .label-at .ensures)
@@ -41,14 +17,5 @@ returns c = lay-done (c .before .before .before .before .before .before .before 
 pub lay-spec : {M : Type 1} → statement M
 lay-spec =
     tie.close
-    (tie.spec
-    start-at-requires
-    len-at-requires
-    add-to
-    sub-copy
-    part-copy-start
-    part-copy-end
-    label-at-requires
-    copy-requires
-    same-length
-    returns)
+    (tie.spec (λ c κs. search needs) (λ c κs. search needs) (λ c. search needs) (λ c. search needs) (λ c. search needs) (λ c. search needs)
+    (λ c κs. search needs) copy-requires (λ c. search needs) returns)

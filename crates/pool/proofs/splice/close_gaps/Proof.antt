@@ -11,17 +11,8 @@ Inv-loop labels₀ words₀ n to₀ i₀ labels words to i = (i ≤ n) × Sweepi
 abbrev μ-loop : tie.MeasureT-loop
 μ-loop labels₀ words₀ n to₀ i₀ labels words to i = n - i
 
-loop-holds : tie.Need-loop-holds Inv-loop μ-loop
-loop-holds c = (omega arith, sweep-none _ _)
-
 sweep-slot-requires : tie.Need-sweep-slot-requires Inv-loop μ-loop
 sweep-slot-requires c κs = omega (arith, c .before .before .before .loop .inv .1 .most, c .before .before .before .loop .inv .1 .lenW, c .before .before .before .loop .inv .1 .lenB)
-
-add-i : tie.Need-add-i Inv-loop μ-loop
-add-i c = omega arith
-
-loop-less : tie.Need-loop-less Inv-loop μ-loop
-loop-less c = omega arith
 
 loop-again : tie.Need-loop-again Inv-loop μ-loop
 loop-again c = (omega arith, sweep-on _ _ _ _ _ _ (c .before .before .before .before .before .before .before .before .loop .inv .1) (omega (arith, c .before .before .before .before .before .before .before .before .loop .inv .1 .lenB)) _ _ _ (c .before .before .before .before .sweep-slot .ensures))
@@ -38,14 +29,6 @@ returns c = sweep-done (omega arith) (c .before .loop .inv .1)
 pub close-gaps-spec : {M : Type 1} → statement M
 close-gaps-spec =
     tie.close
-    (tie.spec
-    Inv-loop
-    μ-loop
-    loop-holds
-    sweep-slot-requires
-    add-i
-    loop-less
-    loop-again
-    same-length
-    same-length-2
-    returns)
+    (tie.spec Inv-loop μ-loop (λ c. (omega arith, sweep-none _ _)) sweep-slot-requires
+    (λ c. omega arith) (λ c. omega arith) loop-again same-length
+    same-length-2 returns)

@@ -6,32 +6,8 @@ use borrow.Author.Needs.{needs}
 use Rattle.pool.proofs.splice.raise_slot.Statement.{statement}
 use Rattle.pool.proofs.splice.raise_slot.Tie as tie
 
-span-at-requires : tie.Need-span-at-requires
-span-at-requires c κs = search needs
-
-add-end : tie.Need-add-end
-add-end c = search needs
-
-same-length : tie.Need-same-length
-same-length c = search needs
-
 returns : tie.Need-returns
 returns c = raise-below _ _ _ _ _ _ (c .before .before .span-at .ensures .0) (omega arith) (c .before .before .before .before .before .pre .3) (omega arith)
-
-start-at-requires : tie.Need-start-at-requires
-start-at-requires c κs = search needs
-
-len-at-requires : tie.Need-len-at-requires
-len-at-requires c κs = search needs
-
-add-base : tie.Need-add-base
-add-base c = search needs
-
-start-at-requires-2 : tie.Need-start-at-requires-2
-start-at-requires-2 c κs = search needs
-
-same-length-2 : tie.Need-same-length-2
-same-length-2 c = search needs
 
 returns-2 : tie.Need-returns-2
 returns-2 c =
@@ -45,12 +21,6 @@ set-span-requires : tie.Need-set-span-requires
 set-span-requires c κs =
     omega (arith, raise-fits _ _ _ _ _ _ (c .before .before .before .before .before .before .before .before .before .before .span-at .ensures .0) (omega arith) (c .before .before .before .before .before .before .before .before .before .before .before .before .before .pre .3) (c .before .before .before .before .before .before .start-at .result + c .before .before .before .before .len-at .result) _ (omega arith) (omega arith) (c .before .before .start-at2 .ensures .0) (omega arith))
 
-add-result : tie.Need-add-result
-add-result c = search needs
-
-same-length-3 : tie.Need-same-length-3
-same-length-3 c = search needs
-
 returns-3 : tie.Need-returns-3
 returns-3 c =
     raise-grow _ _ _ _ _ _ (c .before .before .before .before .before .before .before .before .before .before .before .before .before .span-at .ensures .0) (omega arith) (c .before .before .before .before .before .before .before .before .before .before .before .before .before .before .before .before .pre .3) _ (c .before .before .before .before .before .before .before .before .before .start-at .result + c .before .before .before .before .before .before .before .len-at .result) _ (omega arith) (omega arith) (omega arith) (c .before .before .before .before .before .start-at2 .ensures .0) (omega arith) (c .before .before .set-span .ensures)
@@ -58,19 +28,6 @@ returns-3 c =
 pub raise-slot-spec : {M : Type 1} → statement M
 raise-slot-spec =
     tie.close
-    (tie.spec
-    span-at-requires
-    add-end
-    same-length
-    returns
-    start-at-requires
-    len-at-requires
-    add-base
-    start-at-requires-2
-    same-length-2
-    returns-2
-    add-set-span
-    set-span-requires
-    add-result
-    same-length-3
-    returns-3)
+    (tie.spec (λ c κs. search needs) (λ c. search needs) (λ c. search needs) returns
+    (λ c κs. search needs) (λ c κs. search needs) (λ c. search needs) (λ c κs. search needs) (λ c. search needs) returns-2
+    add-set-span set-span-requires (λ c. search needs) (λ c. search needs) returns-3)

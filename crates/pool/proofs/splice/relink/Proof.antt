@@ -11,12 +11,6 @@ Inv-loop words₀ n i₀ words i = (i ≤ n) × Linking words₀ words i n
 abbrev μ-loop : tie.MeasureT-loop
 μ-loop words₀ n i₀ words i = i
 
-loop-holds : tie.Need-loop-holds Inv-loop μ-loop
-loop-holds c = (omega arith, linking-none _ _)
-
-sub-i : tie.Need-sub-i Inv-loop μ-loop
-sub-i c = omega arith
-
 extent-requires : tie.Need-extent-requires Inv-loop μ-loop
 extent-requires c κs =
     let k = c .before .before .loop .inv .1 in
@@ -24,9 +18,6 @@ extent-requires c κs =
 
 set-span-requires : tie.Need-set-span-requires Inv-loop μ-loop
 set-span-requires c κs = omega (arith, c .before .before .before .before .loop .inv .1 .len)
-
-loop-less : tie.Need-loop-less Inv-loop μ-loop
-loop-less c = omega arith
 
 loop-again : tie.Need-loop-again Inv-loop μ-loop
 loop-again c = (omega arith, linking-step _ _ _ _ _ _ (omega arith) (omega arith) (omega arith) (c .before .before .before .before .extent .ensures .0) (c .before .before .set-span .ensures) (c .before .before .before .before .before .before .before .loop .inv .1))
@@ -40,14 +31,6 @@ returns c = linking-done (omega arith) (c .before .loop .inv .1)
 pub relink-spec : {M : Type 1} → statement M
 relink-spec =
     tie.close
-    (tie.spec
-    Inv-loop
-    μ-loop
-    loop-holds
-    sub-i
-    extent-requires
-    set-span-requires
-    loop-less
-    loop-again
-    same-length
+    (tie.spec Inv-loop μ-loop (λ c. (omega arith, linking-none _ _)) (λ c. omega arith) extent-requires
+    set-span-requires (λ c. omega arith) loop-again same-length
     returns)
