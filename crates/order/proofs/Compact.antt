@@ -50,6 +50,10 @@ Compact s (node b l w kids rest) = Tight s b l w kids rest (Compact (s + suc (le
 abbrev pub CompactT : Tree → Type 0
 CompactT t = Compact 0 (t .kids)
 
+-- A node with other younger siblings
+compact-beside : {s b : ℕ} {l : Key} {w : Num} {kids rest f : Forest} → Compact s (node b l w kids rest) → Above b f → Compact s f → Compact s (node b l w kids f)
+compact-beside h above r = record { deep = h .deep; above = above; kept = h .kept; ckids = h .ckids; crest = r }
+
 -- Siblings ascend, and every node has a number or a child.
 pub rising : (f : Forest) (s : ℕ) → Compact s f → Rising f
 rising nil s h = tt
@@ -125,7 +129,7 @@ module _ (y : ℕ) (k : Key) (v x : ℕ) (l : Key) (w : Num) (kids : Forest) (ne
         | even i e ↦ absurd (ne i)
         | more i e ↦
             rw (e, beside, leaf-short y k v nil (omega arith))
-            (record { deep = h .deep; above = i; kept = h .kept; ckids = h .ckids; crest = record { deep = d; above = tt; kept = tt; ckids = tt; crest = tt } })
+            (compact-beside h i (record { deep = d; above = tt; kept = tt; ckids = tt; crest = tt }))
       ]
 
 -- Insert: where there were two children there still are.
@@ -196,13 +200,7 @@ insertF-compact (node b l w kids rest) s a k v h d =
           ]
       | more i e ↦
           rw (insertF-gt b l w kids rest a k v i)
-          (record {
-            deep = h .deep;
-            above = ins-above b rest a (insertF rest a k v) (ins-first rest a k v) i (h .above);
-            kept = h .kept;
-            ckids = h .ckids;
-            crest = insertF-compact rest s a k v (h .crest) d;
-          })
+          (compact-beside h (ins-above b rest a (insertF rest a k v) (ins-first rest a k v) i (h .above)) (insertF-compact rest s a k v (h .crest) d))
     ]
 
 -- A node that is settled is compact, whatever number and compact children it has now: what it takes in fits.
@@ -243,13 +241,7 @@ eraseF-compact (node b l w kids rest) s h a k =
           ]
       | more j e ↦
           rw (eraseF-gt b l w kids rest a k j)
-          (record {
-            deep = h .deep;
-            above = erase-above b rest (rising rest s (h .crest)) a k (h .above);
-            kept = h .kept;
-            ckids = h .ckids;
-            crest = eraseF-compact rest s (h .crest) a k;
-          })
+          (compact-beside h (erase-above b rest (rising rest s (h .crest)) a k (h .above)) (eraseF-compact rest s (h .crest) a k))
     ]
 
 -- Split: what is left, and what is detached
@@ -270,13 +262,7 @@ leaveF-compact (node b l w kids rest) s h a k =
           ]
       | more j e ↦
           rw (leaveF-gt b l w kids rest a k j)
-          (record {
-            deep = h .deep;
-            above = leave-above b rest (rising rest s (h .crest)) a k (h .above);
-            kept = h .kept;
-            ckids = h .ckids;
-            crest = leaveF-compact rest s (h .crest) a k;
-          })
+          (compact-beside h (leave-above b rest (rising rest s (h .crest)) a k (h .above)) (leaveF-compact rest s (h .crest) a k))
     ]
 
 detachF-compact : (f : Forest) (s : ℕ) → Compact s f → (a : ℕ) (k : Key) → AllO CompactT (detachF f a k)

@@ -11,6 +11,7 @@ use Rattle.tree.specs.Tree.{Forest, nil, node, Tree, Above, Used, NodeRu
 use Rattle.tree.specs.Insert.{chain, leaf, beside, insertF, insertT}
 use Rattle.tree.proofs.Order.{Cmp, less, even, more, cmp}
 use Rattle.tree.proofs.Parts.{Parts, parts, bytes-left, bytes-right}
+use Rattle.tree.proofs.Shapes.{wf-beside}
 use Rattle.tree.proofs.InsertFind.{insertF-lt, insertF-gt, insertF-same, insertF-keyEnds, insertF-labelEnds, insertF-fork}
 
 pub wf-at : (f : Forest) {s t : ℕ} → s ≡ t → Wf s f → Wf t f
@@ -124,16 +125,7 @@ beside-wf s y k v x l w kids ne hy hk d h =
       | even i e ↦ absurd (ne i)
       | more i e ↦
           rw (e, beside)
-          (record {
-            byte = h .byte;
-            bytes = h .bytes;
-            short = h .short;
-            deep = h .deep;
-            above = starts-above x y (leaf y k v nil) (leaf-starts y k v nil) i;
-            used = h .used;
-            wkids = h .wkids;
-            wrest = leaf-wf s y k v nil hy hk d tt tt;
-          })
+          (wf-beside h (starts-above x y (leaf y k v nil) (leaf-starts y k v nil) i) (leaf-wf s y k v nil hy hk d tt tt))
     ]
 
 -- The lower part of a node whose label is parted
@@ -213,16 +205,7 @@ insertF-wf (node b l w kids rest) s a k v h ha hk d =
       | even i e ↦ ins-eq-wf b l w kids rest a k v s i h hk d (λ y r. insertF-wf kids (s + suc (length l)) y r v (h .wkids)) (part k l) refl (parts k l)
       | more i e ↦
           rw (insertF-gt b l w kids rest a k v i)
-          (record {
-            byte = h .byte;
-            bytes = h .bytes;
-            short = h .short;
-            deep = h .deep;
-            above = ins-above b rest a (insertF rest a k v) (ins-first rest a k v) i (h .above);
-            used = h .used;
-            wkids = h .wkids;
-            wrest = insertF-wf rest s a k v (h .wrest) ha hk d;
-          })
+          (wf-beside h (ins-above b rest a (insertF rest a k v) (ins-first rest a k v) i (h .above)) (insertF-wf rest s a k v (h .wrest) ha hk d))
     ]
 
 pub insert-wf : (t : Tree) (k : Key) (v : ℕ) → WellFormed t → Bytes k → length k ≤ keyMax → WellFormed (insertT t k v)

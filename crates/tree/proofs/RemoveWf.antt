@@ -14,7 +14,7 @@ use Rattle.tree.specs.Remove.{joins, settle, eraseF, eraseT, removeT, cl
 use Rattle.tree.proofs.Order.{Cmp, less, even, more, cmp}
 use Rattle.tree.proofs.Parts.{bytes-append}
 use Rattle.tree.proofs.RemoveFind.{eraseF-lt, eraseF-gt, eraseF-none, eraseF-here, eraseF-there, Removed, removed}
-use Rattle.tree.proofs.Shapes.{Rising, wf-rising, above-trans}
+use Rattle.tree.proofs.Shapes.{Rising, wf-rising, wf-beside, above-trans}
 use Rattle.tree.proofs.InsertWf.{wf-at}
 
 pub settle-above : (c b : ℕ) (l : Key) (w : Num) (kids rest : Forest) → c < b → Above b rest → Above c (settle b l w kids rest)
@@ -89,16 +89,7 @@ eraseF-wf (node b l w kids rest) s h a k =
       | even j e ↦ go j (λ y r. eraseF-wf kids (s + suc (length l)) (h .wkids) y r) (strip l k) refl
       | more j e ↦
           rw (eraseF-gt b l w kids rest a k j)
-          (record {
-            byte = h .byte;
-            bytes = h .bytes;
-            short = h .short;
-            deep = h .deep;
-            above = erase-above b rest (wf-rising rest s (h .wrest)) a k (h .above);
-            used = h .used;
-            wkids = h .wkids;
-            wrest = eraseF-wf rest s (h .wrest) a k;
-          })
+          (wf-beside h (erase-above b rest (wf-rising rest s (h .wrest)) a k (h .above)) (eraseF-wf rest s (h .wrest) a k))
     ]
   where
     go : a ≡ b → ((y : ℕ) (r : Key) → Wf (s + suc (length l)) (eraseF kids y r)) → (o : Option Key) → strip l k ≡ o → Wf s (eraseF (node b l w kids rest) a k)

@@ -11,7 +11,7 @@ use Rattle.tree.specs.Remove.{settle}
 use Rattle.tree.specs.Split.{detachF, leaveF, Halves, absent, halves, splitT}
 use Rattle.tree.proofs.Order.{Cmp, less, even, more, cmp}
 use Rattle.tree.proofs.Parts.{Parts, parts}
-use Rattle.tree.proofs.Shapes.{Rising, wf-rising, above-trans}
+use Rattle.tree.proofs.Shapes.{Rising, wf-rising, wf-beside, above-trans}
 use Rattle.tree.proofs.InsertWf.{lower}
 use Rattle.tree.proofs.RemoveWf.{settle-above, settle-wf, empty-wf}
 use Rattle.tree.proofs.SplitFind.{AllO, Halved, halved, detachF-lt, detachF-gt, detachF-same, detachF-keyEnds, detachF-labelEnds, detachF-fork, leaveF-lt, leaveF-gt, leaveF-same, leaveF-keyEnds, leaveF-labelEnds, leaveF-fork}
@@ -53,16 +53,7 @@ leaveF-wf (node b l w kids rest) s h a k =
       | even j e ↦ go j (λ y r. leaveF-wf kids (s + suc (length l)) (h .wkids) y r) (part k l) refl
       | more j e ↦
           rw (leaveF-gt b l w kids rest a k j)
-          (record {
-            byte = h .byte;
-            bytes = h .bytes;
-            short = h .short;
-            deep = h .deep;
-            above = leave-above b rest (wf-rising rest s (h .wrest)) a k (h .above);
-            used = h .used;
-            wkids = h .wkids;
-            wrest = leaveF-wf rest s (h .wrest) a k;
-          })
+          (wf-beside h (leave-above b rest (wf-rising rest s (h .wrest)) a k (h .above)) (leaveF-wf rest s (h .wrest) a k))
     ]
   where
     go : a ≡ b → ((y : ℕ) (r : Key) → Wf (s + suc (length l)) (leaveF kids y r)) → (o : Parting) → part k l ≡ o → Wf s (leaveF (node b l w kids rest) a k)
