@@ -5,28 +5,13 @@ use tree::Loaded;
 use tree::RuleNo;
 use tree::Written;
 
-// The offset that a verdict has, or 0.
-fn offset_of(answer: Loaded) -> usize {
-    match answer {
-        Loaded::Done | Loaded::NotPool | Loaded::PathTooLong | Loaded::NoRoom => 0,
-        Loaded::CutShort(at) => at,
-        Loaded::FlagByte(at) => at,
-        Loaded::WrongLevel(at) => at,
-        Loaded::LabelLength(at) => at,
-        Loaded::SiblingOrder(at) => at,
-        Loaded::IdleNode(at) => at,
-        Loaded::NumberCount(at) => at,
-        Loaded::BytesLeft(at) => at,
-    }
-}
-
 // The number of a verdict, and the offset of those that have one.
 fn verdict(answer: Loaded) {
     let number = answer.number();
     print::value(number as u64);
     if number > 4 {
         print::text(b" at");
-        print::value(offset_of(answer) as u64);
+        print::value(answer.offset(0) as u64);
     }
 }
 
@@ -34,7 +19,7 @@ fn same(a: Loaded, b: Loaded) -> bool {
     if a.number() != b.number() {
         return false;
     }
-    offset_of(a) == offset_of(b)
+    a.offset(0) == b.offset(0)
 }
 
 // Reads an image into six slots of their own.

@@ -149,18 +149,5 @@ pub fn numbers_length(answer: Written, kept: usize) -> usize
 pub fn fault_offset(answer: Loaded, kept: usize) -> usize
     ensures { λ r. ⌜ r ≡ given (loadedTold answer) 0 kept ⌝ }
 {
-    match answer {
-        Loaded::Done => kept,
-        Loaded::NotPool => kept,
-        Loaded::PathTooLong => kept,
-        Loaded::NoRoom => kept,
-        Loaded::CutShort(at) => at,
-        Loaded::FlagByte(at) => at,
-        Loaded::WrongLevel(at) => at,
-        Loaded::LabelLength(at) => at,
-        Loaded::SiblingOrder(at) => at,
-        Loaded::IdleNode(at) => at,
-        Loaded::NumberCount(at) => at,
-        Loaded::BytesLeft(at) => at,
-    }
+    answer.offset(kept)
 }

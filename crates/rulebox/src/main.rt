@@ -141,16 +141,8 @@ fn insert(labels: &mut [u8], words: &mut [u32], key: &[u8], n: u32) {
 
 // The offset that a refusal of the reader has, or none.
 fn tell_offset(answer: Loaded) {
-    match answer {
-        Loaded::Done | Loaded::NotPool | Loaded::PathTooLong | Loaded::NoRoom => {}
-        Loaded::CutShort(at) => print::value(at as u64),
-        Loaded::FlagByte(at) => print::value(at as u64),
-        Loaded::WrongLevel(at) => print::value(at as u64),
-        Loaded::LabelLength(at) => print::value(at as u64),
-        Loaded::SiblingOrder(at) => print::value(at as u64),
-        Loaded::IdleNode(at) => print::value(at as u64),
-        Loaded::NumberCount(at) => print::value(at as u64),
-        Loaded::BytesLeft(at) => print::value(at as u64),
+    if answer.number() > 5 {
+        print::value(answer.offset(0) as u64);
     }
 }
 

@@ -61,16 +61,8 @@ fn show_shared(labels: &[u8], words: &[u32], query: &[u8]) {
 
 // The offset that a refusal of the reader has, or none.
 fn show_offset(answer: Loaded) {
-    match answer {
-        Loaded::Done | Loaded::NotPool | Loaded::PathTooLong | Loaded::NoRoom => {}
-        Loaded::CutShort(at) => print::value(at as u64),
-        Loaded::FlagByte(at) => print::value(at as u64),
-        Loaded::WrongLevel(at) => print::value(at as u64),
-        Loaded::LabelLength(at) => print::value(at as u64),
-        Loaded::SiblingOrder(at) => print::value(at as u64),
-        Loaded::IdleNode(at) => print::value(at as u64),
-        Loaded::NumberCount(at) => print::value(at as u64),
-        Loaded::BytesLeft(at) => print::value(at as u64),
+    if answer.number() > 5 {
+        print::value(answer.offset(0) as u64);
     }
 }
 

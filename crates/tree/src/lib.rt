@@ -1,5 +1,6 @@
 // The three kinds of number that must not be mixed up, the sizes of document 01, and one enum for each kind of answer.
 ghost use mathlib.Core.Path.{_≡_};
+ghost use lib.ListN.{getD};
 ghost use Rattle.tree.specs.Told.{emptiedTold, gotTold, insertedTold, prefixedTold, sharingTold, steppedTold, dividedTold, countedTold, writtenTold, loadedTold};
 
 // A label has at most so many bytes.
@@ -239,6 +240,26 @@ impl Loaded {
             Loaded::IdleNode(_) => 11,
             Loaded::NumberCount(_) => 12,
             Loaded::BytesLeft(_) => 13,
+        }
+    }
+
+    // The offset that is told besides, or `kept` where none is: the numbers from 6 on have one.
+    pub fn offset(self, kept: usize) -> usize
+        ensures { λ r. ⌜ r ≡ getD (loadedTold self .values) 0 kept ⌝ }
+    {
+        match self {
+            Loaded::Done => kept,
+            Loaded::NotPool => kept,
+            Loaded::PathTooLong => kept,
+            Loaded::NoRoom => kept,
+            Loaded::CutShort(at) => at,
+            Loaded::FlagByte(at) => at,
+            Loaded::WrongLevel(at) => at,
+            Loaded::LabelLength(at) => at,
+            Loaded::SiblingOrder(at) => at,
+            Loaded::IdleNode(at) => at,
+            Loaded::NumberCount(at) => at,
+            Loaded::BytesLeft(at) => at,
         }
     }
 }
