@@ -367,35 +367,20 @@ module _ {ws bs key : List ℕ} {d : Descent} (w : Known ws bs key d) {ws₂ bs�
 
 -- Where the search has ended
 module _ {ws bs key : List ℕ} {d : Descent} (w : Known ws bs key d) where
+  -- a place that the search has come to, as the code is handed it
+  abbrev landing : (s : Stop) (at over : ℕ) → PlaceOf (tree w) key s at (d .end .0) over (d .above) → Landed ws bs s at over
+  landing s at over p =
+      record { tree = tree w; is = tree-is w; bytes = w .bytes; prefix = key; short = w .short; end = d .end .0; above = d .above; place = p }
+
   unfoldable pub landed : (s : Stop) → d .stop ≡ s → Landed ws bs s (d .at .0) (d .parent .0)
-  landed s e =
-      record {
-        tree = tree w;
-        is = tree-is w;
-        bytes = w .bytes;
-        prefix = key;
-        short = w .short;
-        end = d .end .0;
-        above = d .above;
-        place = place w s e;
-      }
+  landed s e = landing s (d .at .0) (d .parent .0) (place w s e)
 
   pub root-place : (q : Key) → PlaceOf (tree w) q Stop.Root (d .at .0) (d .end .0) (d .parent .0) (d .above) → PlaceOf (tree w) q Stop.Root 0 (d .end .0) 0 (d .above)
   root-place [] p = refl
   root-place (a ∷ k) p = absurd (p .ends)
 
   unfoldable pub landed-root : d .stop ≡ Stop.Root → Landed ws bs Stop.Root 0 0
-  landed-root e =
-      record {
-        tree = tree w;
-        is = tree-is w;
-        bytes = w .bytes;
-        prefix = key;
-        short = w .short;
-        end = d .end .0;
-        above = d .above;
-        place = root-place key (place w Stop.Root e);
-      }
+  landed-root e = landing Stop.Root 0 0 (root-place key (place w Stop.Root e))
 
 -- Refusals 1 and 2: the first pool, the second pool's lengths, the prefix
 module _ (ws bs ws₂ bs₂ key : List ℕ) where
