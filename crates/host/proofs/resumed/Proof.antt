@@ -4,17 +4,11 @@ use borrow.Author.Needs.{needs}
 use Rattle.host.proofs.resumed.Statement.{statement}
 use Rattle.host.proofs.resumed.Tie as tie
 
-new-requires : tie.Need-new-requires
-new-requires c κs = search needs
-
 returns : tie.Need-returns
 returns c = resumes-fresh _ _ (c .before .new .ensures) (c .if1 .taken)
-
-new-requires-2 : tie.Need-new-requires-2
-new-requires-2 c κs = search needs
 
 returns-2 : tie.Need-returns-2
 returns-2 c = resumes-given _ _ (c .before .before .before .before .new .ensures) (c .before .before .new2 .ensures) (c .before .before .before .if1 .left)
 
 pub resumed-spec : {M : Type 1} → statement M
-resumed-spec = tie.close (tie.spec new-requires returns new-requires-2 returns-2)
+resumed-spec = tie.close (tie.spec (λ c κs. search needs) returns (λ c κs. search needs) returns-2)

@@ -2,7 +2,6 @@
 use native.Mathlib.Omega.{arith}
 use mathlib.Core.Path.{refl}
 use Rattle.line.proofs.Turns.{Hexing, hexing-none, hexing-step, hexing-done}
-use lib.ListN.{length}
 use Prim.Native.Nat.{_*_, _+_, _-_, _≤_}
 use Rattle.line.proofs.hex.Statement.{statement}
 use Rattle.line.proofs.hex.Tie as tie

@@ -2,8 +2,7 @@
 use Rattle.line.proofs.Lists.{Listing, listing-none, listing-bad, listing-last, listing-step, listing-full, comma, numbered}
 use native.Mathlib.Omega.{arith}
 use lib.ListN.{length, length-set}
-use Prim.Native.Nat.{_-_, _≤_}
-use mathlib.Core.Path.{_≡_}
+use Prim.Native.Nat.{_-_}
 use Rattle.line.proofs.many.Statement.{statement}
 use Rattle.line.proofs.many.Tie as tie
 

@@ -5,35 +5,14 @@ use borrow.Author.Needs.{needs}
 use Rattle.line.proofs.number.Statement.{statement}
 use Rattle.line.proofs.number.Tie as tie
 
-returns : tie.Need-returns
-returns c = search needs
-
-digits-requires : tie.Need-digits-requires
-digits-requires c κs = search needs
-
 returns-2 : tie.Need-returns-2
 returns-2 c = number-taken (c .digits .result) _ (omega arith) (λ e. omega arith) (c .digits .ensures)
 
-shared-slice-read-if3 : tie.Need-shared-slice-read-if3
-shared-slice-read-if3 c = search needs
-
 returns-3 : tie.Need-returns-3
 returns-3 c = λ n. omega (arith, n .plain (c .if3 .taken))
-
-digits-requires-2 : tie.Need-digits-requires-2
-digits-requires-2 c κs = search needs
 
 returns-4 : tie.Need-returns-4
 returns-4 c = number-taken (c .digits2 .result) _ (omega arith) (λ e. absurd (c .before .if3 .left e)) (c .digits2 .ensures)
 
 pub number-spec : {M : Type 1} → statement M
-number-spec =
-    tie.close
-    (tie.spec
-    returns
-    digits-requires
-    returns-2
-    shared-slice-read-if3
-    returns-3
-    digits-requires-2
-    returns-4)
+number-spec = tie.close (tie.spec (λ c. search needs) (λ c κs. search needs) returns-2 (λ c. search needs) returns-3 (λ c κs. search needs) returns-4)

@@ -6,9 +6,6 @@ use borrow.Author.Needs.{needs}
 use Rattle.line.proofs.word_end.Statement.{statement}
 use Rattle.line.proofs.word_end.Tie as tie
 
-find-requires : tie.Need-find-requires
-find-requires c κs = search needs
-
 returns : tie.Need-returns
 unfolding slice
 returns c =
@@ -16,4 +13,4 @@ returns c =
     record { within = omega arith; first = omega (arith, e) }
 
 pub word-end-spec : {M : Type 1} → statement M
-word-end-spec = tie.close (tie.spec find-requires returns)
+word-end-spec = tie.close (tie.spec (λ c κs. search needs) returns)

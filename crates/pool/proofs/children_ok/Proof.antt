@@ -2,7 +2,7 @@
 use Prim.Native.Nat.{_-_}
 use native.Mathlib.Omega.{arith}
 use borrow.Author.Tests.{not-true, not-false}
-use Rattle.pool.specs.Rule.{Children, done, child}
+use Rattle.pool.specs.Rule.{done, child}
 use Rattle.pool.proofs.Test.{says-yes, says-no}
 use Rattle.pool.proofs.Kin.{Along, first-child, later-children, children-from}
 use Rattle.pool.proofs.children_ok.Statement.{statement}
@@ -17,23 +17,8 @@ abbrev μ-loop : tie.MeasureT-loop
 loop-holds : tie.Need-loop-holds Inv-loop μ-loop
 loop-holds c = record { within = omega arith; whole = λ k. k; rest = λ k. k }
 
-child-ok-requires : tie.Need-child-ok-requires Inv-loop μ-loop
-child-ok-requires c κs = omega arith
-
 returns : tie.Need-returns Inv-loop μ-loop
 returns c = says-no (λ k. c .before .child-ok .ensures .no (not-true _ (c .if2 .taken)) (first-child (c .before .before .if1 .taken) (c .before .before .before .before .loop .inv .rest k)))
-
-first-at-requires : tie.Need-first-at-requires Inv-loop μ-loop
-first-at-requires c κs = omega arith
-
-cast-least : tie.Need-cast-least Inv-loop μ-loop
-cast-least c = omega arith
-
-add-least : tie.Need-add-least Inv-loop μ-loop
-add-least c = omega arith
-
-span-at-requires : tie.Need-span-at-requires Inv-loop μ-loop
-span-at-requires c κs = omega arith
 
 add-c : tie.Need-add-c Inv-loop μ-loop
 add-c c = omega (arith, c .before .before .before .child-ok .ensures .yes (not-false _ (c .before .before .if2 .left)))
@@ -58,17 +43,6 @@ returns-2 c = says-yes (c .before .before .loop .inv .whole (done (omega arith))
 pub children-ok-spec : {M : Type 1} → statement M
 children-ok-spec =
     tie.close
-    (tie.spec
-    Inv-loop
-    μ-loop
-    loop-holds
-    child-ok-requires
-    returns
-    first-at-requires
-    cast-least
-    add-least
-    span-at-requires
-    add-c
-    loop-less
-    loop-again
-    returns-2)
+    (tie.spec Inv-loop μ-loop loop-holds (λ c κs. omega arith) returns
+    (λ c κs. omega arith) (λ c. omega arith) (λ c. omega arith) (λ c κs. omega arith) add-c
+    loop-less loop-again returns-2)

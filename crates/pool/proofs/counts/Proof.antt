@@ -6,9 +6,6 @@ use borrow.Author.Needs.{needs}
 use Rattle.pool.proofs.counts.Statement.{statement}
 use Rattle.pool.proofs.counts.Tie as tie
 
-is-pool-requires : tie.Need-is-pool-requires
-is-pool-requires c κs = search needs
-
 returns : tie.Need-returns
 returns c = counts-refused _ _ (c .before .is-pool .ensures .no (not-true _ (c .if1 .taken)))
 
@@ -27,5 +24,4 @@ returns-2 c =
     counts-done _ _ r by _ _ (c .keys-in .ensures) (c .before .nodes-in .ensures .0)
 
 pub counts-spec : {M : Type 1} → statement M
-counts-spec =
-    tie.close (tie.spec is-pool-requires returns nodes-in-requires keys-in-requires returns-2)
+counts-spec = tie.close (tie.spec (λ c κs. search needs) returns nodes-in-requires keys-in-requires returns-2)

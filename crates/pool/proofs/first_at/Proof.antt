@@ -6,14 +6,8 @@ use borrow.Author.Needs.{needs}
 use Rattle.pool.proofs.first_at.Statement.{statement}
 use Rattle.pool.proofs.first_at.Tie as tie
 
-mul-result : tie.Need-mul-result
-mul-result c = search needs
-
-shared-slice-read-result : tie.Need-shared-slice-read-result
-shared-slice-read-result c = search needs
-
 returns : tie.Need-returns
 returns c = (refl, omega (arith, c .shared-slice-known .given (255 * c .before .args .at .0)))
 
 pub first-at-spec : {M : Type 1} → statement M
-first-at-spec = tie.close (tie.spec mul-result shared-slice-read-result returns)
+first-at-spec = tie.close (tie.spec (λ c. search needs) (λ c. search needs) returns)

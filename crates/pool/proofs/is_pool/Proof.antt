@@ -8,20 +8,8 @@ use borrow.Author.Needs.{needs}
 use Rattle.pool.proofs.is_pool.Statement.{statement}
 use Rattle.pool.proofs.is_pool.Tie as tie
 
-slots-of-requires : tie.Need-slots-of-requires
-slots-of-requires c κs = search needs
-
-enum-known-slots : tie.Need-enum-known-slots
-enum-known-slots c = search needs
-
 tree-ok-requires : tie.Need-tree-ok-requires
 tree-ok-requires c κs = lengths-right _ _ _ (sym (rw (c .before .slots .given .1) at (c .before .before .before .slots-of .ensures)))
-
-enum-told : tie.Need-enum-told
-enum-told c = search needs
-
-returns : tie.Need-returns
-returns c = search needs
 
 returns-2 : tie.Need-returns-2
 returns-2 c =
@@ -29,6 +17,4 @@ returns-2 c =
     says-no (λ r. none-some (r .slots) (e ∙ right-slots _ _ _ (r .lengths)))
 
 pub is-pool-spec : {M : Type 1} → statement M
-is-pool-spec =
-    tie.close
-    (tie.spec slots-of-requires enum-known-slots tree-ok-requires enum-told returns returns-2)
+is-pool-spec = tie.close (tie.spec (λ c κs. search needs) (λ c. search needs) tree-ok-requires (λ c. search needs) (λ c. search needs) returns-2)

@@ -3,7 +3,7 @@ use Prim.Native.Nat.{ℕ, _≤_, _<_, _-_}
 use native.Mathlib.Omega.{arith}
 use borrow.Author.Count.{below-more}
 use borrow.Author.Tests.{not-true, not-false}
-use Rattle.pool.specs.Rule.{NodeAt, PoolRule}
+use Rattle.pool.specs.Rule.{NodeAt}
 use Rattle.pool.proofs.Test.{says-yes, says-no}
 use Rattle.pool.proofs.Kin.{node-of}
 use Rattle.pool.proofs.tree_ok.Statement.{statement}
@@ -15,47 +15,23 @@ Inv-loop labels words slots n i₀ i = (i ≤ n) × ((k : ℕ) → k < i → Nod
 abbrev μ-loop : tie.MeasureT-loop
 μ-loop labels words slots n i₀ i = n - i
 
-nodes-in-requires : tie.Need-nodes-in-requires Inv-loop μ-loop
-nodes-in-requires c κs = omega arith
-
 returns : tie.Need-returns Inv-loop μ-loop
 returns c = says-no (λ f. omega (arith, f .lengths .labels, f .nodes, f .room, f .root-start, f .root-len, f .root-span))
 
 returns-2 : tie.Need-returns-2 Inv-loop μ-loop
 returns-2 c = says-no (λ f. omega (arith, f .lengths .labels, f .nodes, f .room, f .root-start, f .root-len, f .root-span))
 
-start-at-requires : tie.Need-start-at-requires Inv-loop μ-loop
-start-at-requires c κs = omega arith
-
 returns-3 : tie.Need-returns-3 Inv-loop μ-loop
 returns-3 c = says-no (λ f. omega (arith, f .lengths .labels, f .nodes, f .room, f .root-start, f .root-len, f .root-span))
-
-len-at-requires : tie.Need-len-at-requires Inv-loop μ-loop
-len-at-requires c κs = omega arith
 
 returns-4 : tie.Need-returns-4 Inv-loop μ-loop
 returns-4 c = says-no (λ f. omega (arith, f .lengths .labels, f .nodes, f .room, f .root-start, f .root-len, f .root-span))
 
-span-at-requires : tie.Need-span-at-requires Inv-loop μ-loop
-span-at-requires c κs = omega arith
-
 returns-5 : tie.Need-returns-5 Inv-loop μ-loop
 returns-5 c = says-no (λ f. omega (arith, f .lengths .labels, f .nodes, f .room, f .root-start, f .root-len, f .root-span))
 
-loop-holds : tie.Need-loop-holds Inv-loop μ-loop
-loop-holds c = (omega arith, λ k l. absurd (omega arith))
-
-node-ok-requires : tie.Need-node-ok-requires Inv-loop μ-loop
-node-ok-requires c κs = omega arith
-
 returns-6 : tie.Need-returns-6 Inv-loop μ-loop
 returns-6 c = says-no (λ f. c .before .node-ok .ensures .no (not-true _ (c .if6 .taken)) (node-of (omega arith) (f .each _ (omega arith))))
-
-add-i : tie.Need-add-i Inv-loop μ-loop
-add-i c = omega arith
-
-loop-less : tie.Need-loop-less Inv-loop μ-loop
-loop-less c = omega arith
 
 loop-again : tie.Need-loop-again Inv-loop μ-loop
 loop-again c = (omega arith, below-more _ _ (c .before .before .before .loop .inv .1) (c .before .node-ok .ensures .yes (not-false _ (c .if6 .left))))
@@ -78,22 +54,7 @@ returns-7 c =
 pub tree-ok-spec : {M : Type 1} → statement M
 tree-ok-spec =
     tie.close
-    (tie.spec
-    Inv-loop
-    μ-loop
-    nodes-in-requires
-    returns
-    returns-2
-    start-at-requires
-    returns-3
-    len-at-requires
-    returns-4
-    span-at-requires
-    returns-5
-    loop-holds
-    node-ok-requires
-    returns-6
-    add-i
-    loop-less
-    loop-again
-    returns-7)
+    (tie.spec Inv-loop μ-loop (λ c κs. omega arith) returns returns-2
+    (λ c κs. omega arith) returns-3 (λ c κs. omega arith) returns-4
+    (λ c κs. omega arith) returns-5 (λ c. (omega arith, λ k l. absurd (omega arith))) (λ c κs. omega arith) returns-6
+    (λ c. omega arith) (λ c. omega arith) loop-again returns-7)

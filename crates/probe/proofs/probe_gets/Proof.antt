@@ -1,5 +1,5 @@
 -- `probe::probe_gets` meets its contract: each lookup gives the same number. Assumes nothing.
-use mathlib.Core.Path.{_≡_, ap, refl}
+use mathlib.Core.Path.{_≡_, refl}
 use Prim.Native.Nat.{_≤_, _-_}
 use native.Mathlib.Omega.{arith}
 use borrow.Author.Needs.{needs}
@@ -18,9 +18,6 @@ Inv-loop labels words key times last₀ i₀ last i = (i ≤ times) × (last ≡
 abbrev μ-loop : tie.MeasureT-loop
 μ-loop labels words key times last₀ i₀ last i = times - i
 
-is-pool-requires : tie.Need-is-pool-requires Inv-loop μ-loop
-is-pool-requires c κs = search needs
-
 returns : tie.Need-returns Inv-loop μ-loop
 returns c = number-of _ _ _ refl (get-refused _ _ _ (c .before .is-pool .ensures .no (not-true _ (c .if1 .taken))))
 
@@ -30,23 +27,11 @@ returns-2 c = number-of _ _ _ refl (get-long _ _ _ (c .before .before .is-pool .
 get-in-requires : tie.Need-get-in-requires Inv-loop μ-loop
 get-in-requires c κs = unfold keyMax in (c .before .before .is-pool .ensures .yes (not-false _ (c .before .if1 .left)), omega arith)
 
-number-requires : tie.Need-number-requires Inv-loop μ-loop
-number-requires c κs = search needs
-
 loop-holds : tie.Need-loop-holds Inv-loop μ-loop
 loop-holds c = (omega arith, number-of _ _ _ (c .number .ensures) (c .before .get-in .ensures))
 
 get-in-requires-2 : tie.Need-get-in-requires-2 Inv-loop μ-loop
 get-in-requires-2 c κs = unfold keyMax in (c .before .before .before .before .before .before .is-pool .ensures .yes (not-false _ (c .before .before .before .before .before .if1 .left)), omega arith)
-
-number-requires-2 : tie.Need-number-requires-2 Inv-loop μ-loop
-number-requires-2 c κs = search needs
-
-add-i : tie.Need-add-i Inv-loop μ-loop
-add-i c = omega arith
-
-loop-less : tie.Need-loop-less Inv-loop μ-loop
-loop-less c = omega arith
 
 loop-again : tie.Need-loop-again Inv-loop μ-loop
 loop-again c = (omega arith, number-of _ _ _ (c .number2 .ensures) (c .before .get-in2 .ensures))
@@ -57,18 +42,7 @@ returns-3 c = c .before .loop .inv .1
 pub probe-gets-spec : {M : Type 1} → statement M
 probe-gets-spec =
     tie.close
-    (tie.spec
-    Inv-loop
-    μ-loop
-    is-pool-requires
-    returns
-    returns-2
-    get-in-requires
-    number-requires
-    loop-holds
-    get-in-requires-2
-    number-requires-2
-    add-i
-    loop-less
-    loop-again
+    (tie.spec Inv-loop μ-loop (λ c κs. search needs) returns returns-2
+    get-in-requires (λ c κs. search needs) loop-holds get-in-requires-2
+    (λ c κs. search needs) (λ c. omega arith) (λ c. omega arith) loop-again
     returns-3)

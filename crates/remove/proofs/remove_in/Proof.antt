@@ -1,6 +1,5 @@
 -- `remove::remove_in` meets its contract, by where the search has ended. Assumes nothing.
 use mathlib.Core.Path.{refl}
-use native.Mathlib.Omega.{arith}
 use Rattle.search.specs.declared.Stop.{Stop}
 use Rattle.search.proofs.Answers.{Known, knows, gotAt}
 use Rattle.remove.proofs.Taken.{found, elsewhere}

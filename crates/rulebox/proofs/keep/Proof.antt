@@ -6,24 +6,11 @@ use borrow.Author.Needs.{needs}
 use Rattle.rulebox.proofs.keep.Statement.{statement}
 use Rattle.rulebox.proofs.keep.Tie as tie
 
-slice-write-line : tie.Need-slice-write-line
-slice-write-line c = search needs
-
-add-result : tie.Need-add-result
-add-result c = search needs
-
-same-length : tie.Need-same-length
-same-length c = search needs
-
 returns : tie.Need-returns
 returns c = (simp (lt-ltb _ _ (c .if1 .taken)), refl)
-
-add-result-2 : tie.Need-add-result-2
-add-result-2 c = search needs
 
 returns-2 : tie.Need-returns-2
 returns-2 c = (simp (le-ltb _ _ (c .if1 .left)), sym (set-out _ _ _ (c .if1 .left)))
 
 pub keep-spec : {M : Type 1} → statement M
-keep-spec =
-    tie.close (tie.spec slice-write-line add-result same-length returns add-result-2 returns-2)
+keep-spec = tie.close (tie.spec (λ c. search needs) (λ c. search needs) (λ c. search needs) returns (λ c. search needs) returns-2)

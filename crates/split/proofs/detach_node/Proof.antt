@@ -1,5 +1,5 @@
 -- `split::detach_node` meets its contract. Assumes nothing.
-use mathlib.Core.Path.{refl, sym}
+use mathlib.Core.Path.{refl}
 use native.Mathlib.Omega.{arith}
 use Rattle.split.proofs.Lifts.{lift-as, detached}
 use borrow.Author.Needs.{needs}
@@ -33,9 +33,6 @@ lift-requires c κs = let p = c .before .before .before .before .before .before 
 has-at-requires : tie.Need-has-at-requires
 has-at-requires c κs = omega (arith, c .before .before .before .before .before .before .before .before .before .before .before .before .before .before .before .pre .0 .kids .within .words)
 
-cast-has : tie.Need-cast-has
-cast-has c = search needs
-
 number-at-requires : tie.Need-number-at-requires
 number-at-requires c κs = omega (arith, c .before .before .before .before .before .before .before .before .before .before .before .before .before .before .before .before .before .pre .0 .kids .within .words)
 
@@ -55,4 +52,9 @@ returns c = let p = c .before .before .before .before .before .before .before .b
     detached _ _ _ _ _ _ _ _ _ _ _ _ _ _ (p .0) refl (omega arith) (omega (arith, c .before .before .before .before .before .before .before .before .before .before .before .before .before .before .len-at .ensures .0, c .before .before .before .before .before .before .before .before .before .before .before .before .before .before .before .start-at .ensures .0)) (c .before .before .before .before .before .has-at .ensures .0) (c .before .before .before .number-at .ensures) s (c .before .before .before .before .before .before .before .before .before .before .lift .ensures) (c .before .before .put-root .ensures)
 
 pub detach-node-spec : {M : Type 1} → statement M
-detach-node-spec = tie.close (tie.spec span-at-requires start-at-requires len-at-requires add-base add-first sub-lift lift-requires has-at-requires cast-has number-at-requires put-root-requires same-length same-length-2 returns)
+detach-node-spec =
+    tie.close
+    (tie.spec span-at-requires start-at-requires len-at-requires
+    add-base add-first sub-lift lift-requires has-at-requires
+    (λ c. search needs) number-at-requires put-root-requires same-length
+    same-length-2 returns)

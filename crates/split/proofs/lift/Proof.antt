@@ -12,9 +12,6 @@ Inv-loop labels words count base labels2₀ words2₀ from to i₀ labels2 words
 abbrev μ-loop : tie.MeasureT-loop
 μ-loop labels words count base labels2₀ words2₀ from to i₀ labels2 words2 i = count - i
 
-loop-holds : tie.Need-loop-holds Inv-loop μ-loop
-loop-holds c = (omega arith, lift-none _ _ _ _ _ _ _)
-
 add-t14 : tie.Need-add-t14 Inv-loop μ-loop
 add-t14 c = omega (arith, c .before .before .before .before .before .before .pre .0 .within .words)
 
@@ -26,12 +23,6 @@ lift-slot-requires c κs = let p = c .before .before .before .before .before .be
     let k = c .before .before .before .loop .inv .1 in
     let w = p .0 .within in
     ((record { words = omega (arith, w .words); labels = omega (arith, w .labels) }, p .0 .deep _ (omega arith) (omega arith), p .0 .short _ (omega arith) (omega arith)), record { words = omega (arith, p .1 .words, k .lenW); labels = omega (arith, p .1 .labels, k .lenB) })
-
-add-i : tie.Need-add-i Inv-loop μ-loop
-add-i c = omega arith
-
-loop-less : tie.Need-loop-less Inv-loop μ-loop
-loop-less c = omega arith
 
 loop-again : tie.Need-loop-again Inv-loop μ-loop
 loop-again c = (omega arith, lift-more _ _ _ _ _ _ _ _ _ _ _ _ (c .before .before .before .before .before .before .before .before .loop .inv .1) (c .before .before .before .before .lift-slot .ensures))
@@ -46,4 +37,8 @@ returns : tie.Need-returns Inv-loop μ-loop
 returns c = lift-done (omega arith) (c .before .loop .inv .1)
 
 pub lift-spec : {M : Type 1} → statement M
-lift-spec = tie.close (tie.spec Inv-loop μ-loop loop-holds add-t14 add-t20 lift-slot-requires add-i loop-less loop-again same-length same-length-2 returns)
+lift-spec =
+    tie.close
+    (tie.spec Inv-loop μ-loop (λ c. (omega arith, lift-none _ _ _ _ _ _ _)) add-t14
+    add-t20 lift-slot-requires (λ c. omega arith) (λ c. omega arith) loop-again
+    same-length same-length-2 returns)

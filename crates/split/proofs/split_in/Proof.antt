@@ -1,5 +1,4 @@
 -- `split::split_in` meets its contract, by where the search has ended. Assumes nothing.
-use native.Mathlib.Omega.{arith}
 use Rattle.search.specs.declared.Stop.{Stop}
 use Rattle.search.proofs.Answers.{Known, knows}
 use Rattle.split.proofs.Halves.{landed, landed-root, gap-absent, fork-absent}

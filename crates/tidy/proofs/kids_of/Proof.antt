@@ -6,15 +6,6 @@ use borrow.Author.Needs.{needs}
 use Rattle.tidy.proofs.kids_of.Statement.{statement}
 use Rattle.tidy.proofs.kids_of.Tie as tie
 
-span-at-requires : tie.Need-span-at-requires
-span-at-requires c κs = search needs
-
-add-end : tie.Need-add-end
-add-end c = search needs
-
-add-first : tie.Need-add-first
-add-first c = search needs
-
 next-child-requires : tie.Need-next-child-requires
 next-child-requires c κs = (omega (arith, c .before .before .span-at .ensures .0), rw (c .before .before .span-at .ensures .0) (c .before .before .before .before .pre .1))
 
@@ -23,9 +14,6 @@ returns c = λ bs s b l w kids r. childless r _ _ (omega (arith, c .before .befo
 
 span-at-requires-2 : tie.Need-span-at-requires-2
 span-at-requires-2 c κs = omega (arith, hops-within (c .before .before .next-child .ensures .0), c .before .before .before .before .before .span-at .ensures .0)
-
-add-next : tie.Need-add-next
-add-next c = omega arith
 
 next-child-requires-2 : tie.Need-next-child-requires-2
 next-child-requires-2 c κs = (omega (arith, c .before .before .before .before .before .before .before .span-at .ensures .0), others-hop _ _ _ _ (c .before .before .before .before .next-child .ensures .0) (omega arith) (omega (arith, c .before .span-at2 .ensures .0)))
@@ -37,4 +25,8 @@ returns-3 : tie.Need-returns-3
 returns-3 c = λ bs s b l w kids r. only-child r _ _ (omega (arith, c .before .before .before .before .before .before .before .before .before .before .span-at .ensures .0)) (c .before .before .before .before .before .before .before .next-child .ensures .1) (omega arith) _ _ (omega (arith, c .before .before .before .before .span-at2 .ensures .0)) (c .before .before .next-child2 .ensures .1) (omega arith)
 
 pub kids-of-spec : {M : Type 1} → statement M
-kids-of-spec = tie.close (tie.spec span-at-requires add-end add-first next-child-requires returns span-at-requires-2 add-next next-child-requires-2 returns-2 returns-3)
+kids-of-spec =
+    tie.close
+    (tie.spec (λ c κs. search needs) (λ c. search needs) (λ c. search needs) next-child-requires
+    returns span-at-requires-2 (λ c. omega arith) next-child-requires-2
+    returns-2 returns-3)

@@ -16,14 +16,8 @@ abbrev μ-loop : tie.MeasureT-loop
 loop-holds : tie.Need-loop-holds Inv-loop μ-loop
 loop-holds c = (c .before .pre .1, pass-none _ _ _)
 
-len-at-requires : tie.Need-len-at-requires Inv-loop μ-loop
-len-at-requires c κs = search needs
-
 returns : tie.Need-returns Inv-loop μ-loop
 returns c = (c .before .before .before .loop .inv .0, pass-done (λ l z. omega (arith, c .if1 .taken, c .before .len-at .ensures .0)) (c .before .before .before .loop .inv .1))
-
-span-at-requires : tie.Need-span-at-requires Inv-loop μ-loop
-span-at-requires c κs = search needs
 
 add-c : tie.Need-add-c Inv-loop μ-loop
 add-c c = omega (arith, hops-within (hops-on (omega arith) (c .span-at .ensures .0) (c .before .before .before .before .loop .inv .0) .1))
@@ -39,4 +33,7 @@ returns-2 : tie.Need-returns-2 Inv-loop μ-loop
 returns-2 c = (c .before .loop .inv .0, pass-done (λ l z. omega arith) (c .before .loop .inv .1))
 
 pub next-child-spec : {M : Type 1} → statement M
-next-child-spec = tie.close (tie.spec Inv-loop μ-loop loop-holds len-at-requires returns span-at-requires add-c loop-less loop-again returns-2)
+next-child-spec =
+    tie.close
+    (tie.spec Inv-loop μ-loop loop-holds (λ c κs. search needs) returns
+    (λ c κs. search needs) add-c loop-less loop-again returns-2)

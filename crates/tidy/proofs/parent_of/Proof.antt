@@ -1,7 +1,5 @@
 -- `tidy::parent_of` meets its contract: the slots passed start no higher. Assumes nothing.
-use Prim.Native.Nat.{ℕ, _≤_, _<_}
 use native.Mathlib.Omega.{arith}
-use Rattle.pool.specs.Layout.{startOf}
 use Rattle.tidy.proofs.Rise.{Scanned, scan-none, scan-on, scan-found, scan-root}
 use borrow.Author.Needs.{needs}
 use Rattle.tidy.proofs.parent_of.Statement.{statement}
@@ -13,26 +11,11 @@ Inv-loop words start r₀ r = Scanned words start r₀ r
 abbrev μ-loop : tie.MeasureT-loop
 μ-loop words start r₀ r = r
 
-start-at-requires : tie.Need-start-at-requires Inv-loop μ-loop
-start-at-requires c κs = search needs
-
-sub-r : tie.Need-sub-r Inv-loop μ-loop
-sub-r c = search needs
-
-loop-holds : tie.Need-loop-holds Inv-loop μ-loop
-loop-holds c = scan-none _ _ _
-
 start-at-requires-2 : tie.Need-start-at-requires-2 Inv-loop μ-loop
 start-at-requires-2 c κs = omega (arith, c .before .loop .inv .high)
 
 returns : tie.Need-returns Inv-loop μ-loop
 returns c = scan-found (c .before .before .before .before .before .start-at .ensures .0) (omega arith) (omega (arith, c .before .start-at2 .ensures .0, c .if1 .taken)) (c .before .before .before .loop .inv)
-
-sub-r-2 : tie.Need-sub-r-2 Inv-loop μ-loop
-sub-r-2 c = omega arith
-
-loop-less : tie.Need-loop-less Inv-loop μ-loop
-loop-less c = omega arith
 
 loop-again : tie.Need-loop-again Inv-loop μ-loop
 loop-again c = scan-on (omega arith) (omega (arith, c .before .start-at2 .ensures .0, c .if1 .left)) (c .before .before .before .loop .inv)
@@ -41,4 +24,7 @@ returns-2 : tie.Need-returns-2 Inv-loop μ-loop
 returns-2 c = scan-root (c .before .before .before .start-at .ensures .0) (omega arith) (omega arith) (c .before .loop .inv)
 
 pub parent-of-spec : {M : Type 1} → statement M
-parent-of-spec = tie.close (tie.spec Inv-loop μ-loop start-at-requires sub-r loop-holds start-at-requires-2 returns sub-r-2 loop-less loop-again returns-2)
+parent-of-spec =
+    tie.close
+    (tie.spec Inv-loop μ-loop (λ c κs. search needs) (λ c. search needs) (λ c. scan-none _ _ _) start-at-requires-2
+    returns (λ c. omega arith) (λ c. omega arith) loop-again returns-2)

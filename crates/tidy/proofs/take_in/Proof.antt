@@ -5,18 +5,6 @@ use borrow.Author.Needs.{needs}
 use Rattle.tidy.proofs.take_in.Statement.{statement}
 use Rattle.tidy.proofs.take_in.Tie as tie
 
-len-at-requires : tie.Need-len-at-requires
-len-at-requires c κs = search needs
-
-len-at-requires-2 : tie.Need-len-at-requires-2
-len-at-requires-2 c κs = search needs
-
-add-if1 : tie.Need-add-if1
-add-if1 c = search needs
-
-same-length : tie.Need-same-length
-same-length c = search needs
-
 returns : tie.Need-returns
 returns c = λ s b l kids r k inB. long-stays r k (omega (arith, c .before .len-at2 .ensures .0, c .before .before .before .len-at .ensures .0))
 
@@ -37,4 +25,8 @@ returns-2 : tie.Need-returns-2
 returns-2 c = λ s b l kids r k inB. only-joins r k inB _ _ _ (omega (arith, c .before .before .before .before .before .before .before .before .before .before .before .before .len-at2 .ensures .0, c .before .before .before .before .before .before .before .before .before .before .before .before .before .before .len-at .ensures .0)) (c .before .before .before .before .before .before .before .before .join-label .ensures) (c .before .before .open-gap .ensures _)
 
 pub take-in-spec : {M : Type 1} → statement M
-take-in-spec = tie.close (tie.spec len-at-requires len-at-requires-2 add-if1 same-length returns join-label-requires open-gap-requires same-length-2 same-length-3 returns-2)
+take-in-spec =
+    tie.close
+    (tie.spec (λ c κs. search needs) (λ c κs. search needs) (λ c. search needs) (λ c. search needs) returns
+    join-label-requires open-gap-requires same-length-2 same-length-3
+    returns-2)

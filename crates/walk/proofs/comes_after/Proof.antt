@@ -6,9 +6,6 @@ use borrow.Author.Needs.{needs}
 use Rattle.walk.proofs.comes_after.Statement.{statement}
 use Rattle.walk.proofs.comes_after.Tie as tie
 
-shared-length-requires : tie.Need-shared-length-requires
-shared-length-requires c κs = search needs
-
 returns : tie.Need-returns
 returns c = sym (past-end _ _ (sym (c .before .shared-length .ensures) ∙ c .if1 .taken))
 
@@ -25,12 +22,4 @@ returns-3 : tie.Need-returns-3
 returns-3 c = past-parts _ _ _ (c .before .before .before .before .shared-length .ensures) (c .before .before .before .if1 .left) (c .before .before .if2 .left)
 
 pub comes-after-spec : {M : Type 1} → statement M
-comes-after-spec =
-    tie.close
-    (tie.spec
-    shared-length-requires
-    returns
-    returns-2
-    shared-slice-read-result
-    shared-slice-read-result-2
-    returns-3)
+comes-after-spec = tie.close (tie.spec (λ c κs. search needs) returns returns-2 shared-slice-read-result shared-slice-read-result-2 returns-3)

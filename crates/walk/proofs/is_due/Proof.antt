@@ -6,15 +6,6 @@ use borrow.Author.Needs.{needs}
 use Rattle.walk.proofs.is_due.Statement.{statement}
 use Rattle.walk.proofs.is_due.Tie as tie
 
-shared-length-requires : tie.Need-shared-length-requires
-shared-length-requires c κs = search needs
-
-returns : tie.Need-returns
-returns c = sym (due-off _ _ _ (omega arith))
-
-comes-after-requires : tie.Need-comes-after-requires
-comes-after-requires c κs = search needs
-
 returns-2 : tie.Need-returns-2
 returns-2 c = c .comes-after .ensures ∙ sym (due-on _ _ _ (omega arith) ∙ past-begun _ _ _ (c .before .if2 .taken))
 
@@ -22,5 +13,4 @@ returns-3 : tie.Need-returns-3
 returns-3 c = sym (due-on _ _ _ (omega arith) ∙ past-fresh _ _ _ (c .if2 .left))
 
 pub is-due-spec : {M : Type 1} → statement M
-is-due-spec =
-    tie.close (tie.spec shared-length-requires returns comes-after-requires returns-2 returns-3)
+is-due-spec = tie.close (tie.spec (λ c κs. search needs) (λ c. sym (due-off _ _ _ (omega arith))) (λ c κs. search needs) returns-2 returns-3)

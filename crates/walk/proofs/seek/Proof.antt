@@ -16,9 +16,6 @@ Inv-loop labels words prefix last begun path₀ n i₀ path i = Ahead words labe
 abbrev μ-loop : tie.MeasureT-loop
 μ-loop labels words prefix last begun path₀ n i₀ path i = n - i
 
-nodes-in-requires : tie.Need-nodes-in-requires Inv-loop μ-loop
-nodes-in-requires c κs = omega arith
-
 loop-holds : tie.Need-loop-holds Inv-loop μ-loop
 loop-holds c = ahead-start _ _ _ (c .before .before .before .before .before .before .pre .0) (bytes-of (c .before .before .before .before .before .before .args .labels .now) (c .before .before .before .before .before .shared-slice-known .given)) (c .nodes-in .ensures .0) (c .before .before .before .before .before .before .pre .1)
 
@@ -34,9 +31,6 @@ slice-reshare-prefix-is-due c = laid-inside (c .before .before .before .before .
 slice-aggregate-is-due : tie.Need-slice-aggregate-is-due Inv-loop μ-loop
 slice-aggregate-is-due c = sym (length-take-le _ _ (laid-inside (c .before .before .before .before .before .before .before .before .loop .inv) (c .before .before .before .before .before .before .before .loop-test .taken) (c .before .before .before .before .before .lay .ensures)))
 
-is-due-requires : tie.Need-is-due-requires Inv-loop μ-loop
-is-due-requires c κs = tt
-
 number-at-requires : tie.Need-number-at-requires Inv-loop μ-loop
 number-at-requires c κs = slot-room (c .before .before .before .before .before .before .before .before .before .before .loop .inv) (c .before .before .before .before .before .before .before .before .before .loop-test .taken) .words
 
@@ -45,12 +39,6 @@ same-length c = laid-length (c .before .before .before .before .before .before .
 
 returns : tie.Need-returns Inv-loop μ-loop
 returns c = sought-key (c .before .before .before .before .before .before .before .before .before .before .before .loop .inv) (c .before .before .before .before .before .before .before .before .before .before .loop-test .taken) (c .before .before .before .before .before .before .before .before .lay .ensures) (rw (c .before .before .before .before .if1 .taken) at (c .before .before .before .before .before .gives-key .ensures)) (sym (c .before .if2 .taken) ∙ c .before .before .is-due .ensures) _ (c .number-at .ensures)
-
-add-i : tie.Need-add-i Inv-loop μ-loop
-add-i c = omega arith
-
-loop-less : tie.Need-loop-less Inv-loop μ-loop
-loop-less c = omega arith
 
 loop-again : tie.Need-loop-again Inv-loop μ-loop
 loop-again c = ⊎-elim (λ w. ahead-passed (c .before .before .before .before .before .before .before .loop .inv) (c .before .before .before .before .before .before .loop-test .taken) (c .before .before .before .before .lay .ensures) (rw (w .0 .taken) at (c .before .gives-key .ensures)) (sym (w .3 .left) ∙ w .2 .ensures)) (λ w. ahead-plain (c .before .before .before .before .before .before .before .loop .inv) (c .before .before .before .before .before .before .loop-test .taken) (c .before .before .before .before .lay .ensures) (rw (w .left) at (c .before .gives-key .ensures))) (c .if1 .came)
@@ -64,21 +52,8 @@ returns-2 c = sought-none (c .before .loop .inv) (c .loop-test .left)
 pub seek-spec : {M : Type 1} → statement M
 seek-spec =
     tie.close
-    (tie.spec
-    Inv-loop
-    μ-loop
-    nodes-in-requires
-    loop-holds
-    lay-requires
-    gives-key-requires
-    slice-reshare-prefix-is-due
-    slice-aggregate-is-due
-    is-due-requires
-    number-at-requires
-    same-length
-    returns
-    add-i
-    loop-less
-    loop-again
-    same-length-2
+    (tie.spec Inv-loop μ-loop (λ c κs. omega arith) loop-holds
+    lay-requires gives-key-requires slice-reshare-prefix-is-due
+    slice-aggregate-is-due (λ c κs. tt) number-at-requires same-length
+    returns (λ c. omega arith) (λ c. omega arith) loop-again same-length-2
     returns-2)

@@ -13,24 +13,6 @@ Inv-loop words n sum₀ i₀ sum i = (i ≤ n) × (sum ≡ recordSum words i) ×
 abbrev μ-loop : tie.MeasureT-loop
 μ-loop words n sum₀ i₀ sum i = n - i
 
-loop-holds : tie.Need-loop-holds Inv-loop μ-loop
-loop-holds c = unfold recordSum in omega arith
-
-len-at-requires : tie.Need-len-at-requires Inv-loop μ-loop
-len-at-requires c κs = omega arith
-
-add-sum : tie.Need-add-sum Inv-loop μ-loop
-add-sum c = omega arith
-
-add-sum-2 : tie.Need-add-sum-2 Inv-loop μ-loop
-add-sum-2 c = omega arith
-
-add-i : tie.Need-add-i Inv-loop μ-loop
-add-i c = omega arith
-
-loop-less : tie.Need-loop-less Inv-loop μ-loop
-loop-less c = omega arith
-
 loop-again : tie.Need-loop-again Inv-loop μ-loop
 loop-again c = omega (arith, sum-more (c .before .before .before .before .args .words .now) (c .before .before .loop .i))
 
@@ -40,14 +22,5 @@ returns c = c .before .loop .inv .1 ∙ ap (recordSum (c .before .before .before
 pub image-length-spec : {M : Type 1} → statement M
 image-length-spec =
     tie.close
-    (tie.spec
-    Inv-loop
-    μ-loop
-    loop-holds
-    len-at-requires
-    add-sum
-    add-sum-2
-    add-i
-    loop-less
-    loop-again
-    returns)
+    (tie.spec Inv-loop μ-loop (λ c. unfold recordSum in omega arith) (λ c κs. omega arith) (λ c. omega arith) (λ c. omega arith) (λ c. omega arith)
+    (λ c. omega arith) loop-again returns)

@@ -16,9 +16,6 @@ known-at : (c : tie.After-nodes-in) → Known (c .before .before .before .before
 known-at c =
     known (rule-at (c .before)) (bytes-of (c .before .before .before .before .before .before .before .args .labels .now) (c .before .before .before .before .before .before .shared-slice-known .given)) (c .nodes-in .ensures .0)
 
-is-pool-requires : tie.Need-is-pool-requires
-is-pool-requires c κs = search needs
-
 returns : tie.Need-returns
 returns c = write-refused _ _ _ _ (c .before .is-pool .ensures .no (not-true _ (c .if1 .taken)))
 
@@ -55,12 +52,6 @@ write-numbers-requires : tie.Need-write-numbers-requires
 write-numbers-requires c κs =
     (omega (arith, rule-at (c .before .before .before .before .before .before .before .before .before .before .before .before .before)), numbers-room (known-at (c .before .before .before .before .before .before .before .before .before .before .before .before)) (c .before .before .before .before .before .before .before .before .before .before .before .before .before .before .before .before .before .before .before .args .numbers .now) (c .before .before .before .before .before .before .before .keys-in .ensures) (c .before .before .before .before .before .if4 .left))
 
-same-length : tie.Need-same-length
-same-length c = search needs
-
-same-length-2 : tie.Need-same-length-2
-same-length-2 c = search needs
-
 returns-5 : tie.Need-returns-5
 returns-5 c =
     write-done (known-at (c .before .before .before .before .before .before .before .before .before .before .before .before .before .before .before)) _ _ (c .before .before .before .before .before .before .before .before .before .before .before .before .before .before .deepest .ensures) (c .before .before .before .before .before .before .before .before .before .before .before .before .if2 .left) (c .before .before .before .before .before .before .before .before .before .before .before .image-length .ensures) (c .before .before .before .before .before .before .before .before .before .before .keys-in .ensures) (c .before .before .before .before .before .before .before .before .before .if3 .left)
@@ -69,18 +60,7 @@ returns-5 c =
 pub write-spec : {M : Type 1} → statement M
 write-spec =
     tie.close
-    (tie.spec
-    is-pool-requires
-    returns
-    nodes-in-requires
-    deepest-requires
-    returns-2
-    image-length-requires
-    keys-in-requires
-    returns-3
-    returns-4
-    write-tree-requires
-    write-numbers-requires
-    same-length
-    same-length-2
-    returns-5)
+    (tie.spec (λ c κs. search needs) returns nodes-in-requires
+    deepest-requires returns-2 image-length-requires keys-in-requires
+    returns-3 returns-4 write-tree-requires write-numbers-requires
+    (λ c. search needs) (λ c. search needs) returns-5)

@@ -5,30 +5,15 @@ use borrow.Author.Needs.{needs}
 use Rattle.writer.proofs.write_number.Statement.{statement}
 use Rattle.writer.proofs.write_number.Tie as tie
 
-has-at-requires : tie.Need-has-at-requires
-has-at-requires c κs = search needs
-
 returns : tie.Need-returns
 returns c =
     let a = c .before .before .before .before .args in
     number-none (a .words .now) (a .out .now) (a .slot .0) (a .at) (sym (c .before .has-at .ensures .0) ∙ c .if1 .taken)
 
-number-at-requires : tie.Need-number-at-requires
-number-at-requires c κs = search needs
-
-mul-out : tie.Need-mul-out
-mul-out c = search needs
-
 slice-write-out : tie.Need-slice-write-out
 slice-write-out c =
     let a = c .before .before .before .before .before .args in
     number-room (a .words .now) (a .out .now) (a .slot .0) (a .at) (λ e. c .before .if1 .left (c .before .before .has-at .ensures .0 ∙ e)) (c .before .before .before .before .before .pre .1)
-
-add-result : tie.Need-add-result
-add-result c = search needs
-
-same-length : tie.Need-same-length
-same-length c = search needs
 
 returns-2 : tie.Need-returns-2
 returns-2 c =
@@ -38,12 +23,5 @@ returns-2 c =
 pub write-number-spec : {M : Type 1} → statement M
 write-number-spec =
     tie.close
-    (tie.spec
-    has-at-requires
-    returns
-    number-at-requires
-    mul-out
-    slice-write-out
-    add-result
-    same-length
-    returns-2)
+    (tie.spec (λ c κs. search needs) returns (λ c κs. search needs) (λ c. search needs) slice-write-out
+    (λ c. search needs) (λ c. search needs) returns-2)

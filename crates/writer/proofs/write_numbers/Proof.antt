@@ -14,17 +14,8 @@ Inv-loop words n out₀ at₀ i₀ out at i = (i ≤ n) × Put (numbersIn words 
 abbrev μ-loop : tie.MeasureT-loop
 μ-loop words n out₀ at₀ i₀ out at i = n - i
 
-loop-holds : tie.Need-loop-holds Inv-loop μ-loop
-loop-holds c = (omega arith, numbers-none _ _)
-
 write-number-requires : tie.Need-write-number-requires Inv-loop μ-loop
 write-number-requires c κs = (omega arith, omega (arith, number-fits (c .before .before .before .before .before .args .words .now) (c .before .before .loop .i) (c .before .before .before .before .before .args .n) (c .before .loop-test .taken), put-length (c .before .before .loop .inv .1), c .before .before .loop .inv .1 .behind))
-
-add-i : tie.Need-add-i Inv-loop μ-loop
-add-i c = omega arith
-
-loop-less : tie.Need-loop-less Inv-loop μ-loop
-loop-less c = omega arith
 
 loop-again : tie.Need-loop-again Inv-loop μ-loop
 loop-again c = (omega arith, numbers-step (c .before .before .before .before .before .before .before .before .args .words .now) (c .before .before .before .before .before .loop .i) (c .before .before .before .before .before .loop .inv .1) (c .before .before .write-number .ensures))
@@ -38,13 +29,6 @@ returns c = numbers-done (c .before .before .before .before .args .words .now) (
 pub write-numbers-spec : {M : Type 1} → statement M
 write-numbers-spec =
     tie.close
-    (tie.spec
-    Inv-loop
-    μ-loop
-    loop-holds
-    write-number-requires
-    add-i
-    loop-less
-    loop-again
-    same-length
+    (tie.spec Inv-loop μ-loop (λ c. (omega arith, numbers-none _ _)) write-number-requires
+    (λ c. omega arith) (λ c. omega arith) loop-again same-length
     returns)

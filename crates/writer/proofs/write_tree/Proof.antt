@@ -1,5 +1,4 @@
 -- `writer::write_tree` meets its contract: the root, then its children. Assumes nothing.
-use native.Mathlib.Omega.{arith}
 use borrow.Author.Needs.{needs}
 use Rattle.tree.specs.Key.{Bytes}
 use Rattle.pool.proofs.Answers.{bytes-of}
@@ -20,12 +19,9 @@ write-record-requires c κs = root-room (bytes-at (c .before .before .before .be
 write-siblings-requires : tie.Need-write-siblings-requires
 write-siblings-requires c κs = kids-room (bytes-at (c .before .before .before .before .before .before .before .before)) (c .before .before .before .before .before .before .before .before .before .pre) (c .before .before .before .before .before .nodes-in .ensures .0) (c .before .before .before .write-record .ensures)
 
-same-length : tie.Need-same-length
-same-length c = search needs
-
 returns : tie.Need-returns
 returns c =
     tree-put (bytes-at (c .before .before .before .before .before .before .before .before .before .before .before)) (c .before .before .before .before .before .before .before .before .before .before .before .before .pre) (c .before .before .before .before .before .before .before .before .nodes-in .ensures .0) (c .before .before .before .before .before .before .write-record .ensures) (c .before .before .write-siblings .ensures)
 
 pub write-tree-spec : {M : Type 1} → statement M
-write-tree-spec = tie.close (tie.spec nodes-in-requires write-record-requires write-siblings-requires same-length returns)
+write-tree-spec = tie.close (tie.spec nodes-in-requires write-record-requires write-siblings-requires (λ c. search needs) returns)

@@ -18,23 +18,14 @@ abbrev μ-loop : tie.MeasureT-loop
 loop-holds : tie.Need-loop-holds Inv-loop μ-loop
 loop-holds c = (omega arith, omega arith, refl, λ bs h. gaps-none _ bs _)
 
-open-gap-requires : tie.Need-open-gap-requires Inv-loop μ-loop
-open-gap-requires c κs = omega arith
-
-add-i : tie.Need-add-i Inv-loop μ-loop
-add-i c = omega arith
-
-loop-less : tie.Need-loop-less Inv-loop μ-loop
-loop-less c = omega arith
-
 loop-again : tie.Need-loop-again Inv-loop μ-loop
 loop-again c = (omega arith, omega arith, omega arith, λ bs h. gaps-more _ bs _ _ _ _ (omega arith) (omega arith) (c .before .before .before .before .before .loop .inv .3 bs h) (c .before .before .open-gap .ensures bs))
-
-same-length : tie.Need-same-length Inv-loop μ-loop
-same-length c = omega arith
 
 returns : tie.Need-returns Inv-loop μ-loop
 returns c = λ bs h. gaps-done (omega arith) (c .before .loop .inv .3 bs h)
 
 pub open-gaps-spec : {M : Type 1} → statement M
-open-gaps-spec = tie.close (tie.spec Inv-loop μ-loop loop-holds open-gap-requires add-i loop-less loop-again same-length returns)
+open-gaps-spec =
+    tie.close
+    (tie.spec Inv-loop μ-loop loop-holds (λ c κs. omega arith) (λ c. omega arith) (λ c. omega arith) loop-again
+    (λ c. omega arith) returns)

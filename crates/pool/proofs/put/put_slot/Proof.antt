@@ -4,21 +4,8 @@ use borrow.Author.Needs.{needs}
 use Rattle.pool.proofs.put.put_slot.Statement.{statement}
 use Rattle.pool.proofs.put.put_slot.Tie as tie
 
-put-words-requires : tie.Need-put-words-requires
-put-words-requires c κs = search needs
-
-put-label-requires : tie.Need-put-label-requires
-put-label-requires c κs = search needs
-
-same-length : tie.Need-same-length
-same-length c = search needs
-
-same-length-2 : tie.Need-same-length-2
-same-length-2 c = search needs
-
 returns : tie.Need-returns
 returns c = slot-put _ _ _ _ _ _ _ (c .before .before .before .before .before .before .before .before .before .before .before .pre .1 .0) (c .before .before .before .before .before .before .before .before .before .before .before .pre .1 .1) (c .before .before .before .before .before .before .put-words .ensures) (c .before .before .put-label .ensures)
 
 pub put-slot-spec : {M : Type 1} → statement M
-put-slot-spec =
-    tie.close (tie.spec put-words-requires put-label-requires same-length same-length-2 returns)
+put-slot-spec = tie.close (tie.spec (λ c κs. search needs) (λ c κs. search needs) (λ c. search needs) (λ c. search needs) returns)

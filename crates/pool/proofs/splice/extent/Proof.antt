@@ -1,6 +1,5 @@
 -- `pool::splice::extent` meets its contract: the walk has passed what belongs to the slot. Assumes nothing.
-use mathlib.Core.Path.{refl}
-use Prim.Native.Nat.{ℕ, _+_, _-_}
+use Prim.Native.Nat.{_-_}
 use native.Mathlib.Omega.{arith}
 use Rattle.pool.proofs.Reach.{Walked, walk-start, walk-on, walk-stop, walk-end, extent-is}
 use Rattle.pool.proofs.splice.extent.Statement.{statement}
@@ -12,32 +11,8 @@ Inv-loop words n i base j₀ j = Walked words base i n j
 abbrev μ-loop : tie.MeasureT-loop
 μ-loop words n i base j₀ j = n - j
 
-start-at-requires : tie.Need-start-at-requires Inv-loop μ-loop
-start-at-requires c κs = omega arith
-
-len-at-requires : tie.Need-len-at-requires Inv-loop μ-loop
-len-at-requires c κs = omega arith
-
-add-base : tie.Need-add-base Inv-loop μ-loop
-add-base c = omega arith
-
-add-j : tie.Need-add-j Inv-loop μ-loop
-add-j c = omega arith
-
-loop-holds : tie.Need-loop-holds Inv-loop μ-loop
-loop-holds c = walk-start _ _ _ _ (omega arith)
-
-start-at-requires-2 : tie.Need-start-at-requires-2 Inv-loop μ-loop
-start-at-requires-2 c κs = omega arith
-
-sub-result : tie.Need-sub-result Inv-loop μ-loop
-sub-result c = omega arith
-
 returns : tie.Need-returns Inv-loop μ-loop
 returns c = extent-is _ _ _ _ _ (omega arith) (walk-stop _ _ _ _ _ (omega arith) (c .before .before .before .loop .inv)) (omega arith) (omega arith)
-
-span-at-requires : tie.Need-span-at-requires Inv-loop μ-loop
-span-at-requires c κs = omega arith
 
 add-j-2 : tie.Need-add-j-2 Inv-loop μ-loop
 add-j-2 c = omega (arith, walk-on _ _ _ _ _ _ (c .before .before .before .before .before .before .before .before .pre .3) (omega arith) (omega arith) (c .span-at .ensures .0) (c .before .before .before .before .loop .inv))
@@ -48,29 +23,12 @@ loop-less c = omega (arith, c .before .before .before .before .before .before .b
 loop-again : tie.Need-loop-again Inv-loop μ-loop
 loop-again c = walk-on _ _ _ _ _ _ (c .before .before .before .before .before .before .before .before .pre .3) (omega arith) (omega arith) (c .span-at .ensures .0) (c .before .before .before .before .loop .inv)
 
-sub-result-2 : tie.Need-sub-result-2 Inv-loop μ-loop
-sub-result-2 c = omega arith
-
 returns-2 : tie.Need-returns-2 Inv-loop μ-loop
 returns-2 c = extent-is _ _ _ _ _ (omega arith) (walk-end _ _ _ _ _ (omega arith) (c .before .loop .inv)) (omega arith) (omega arith)
 
 pub extent-spec : {M : Type 1} → statement M
 extent-spec =
     tie.close
-    (tie.spec
-    Inv-loop
-    μ-loop
-    start-at-requires
-    len-at-requires
-    add-base
-    add-j
-    loop-holds
-    start-at-requires-2
-    sub-result
-    returns
-    span-at-requires
-    add-j-2
-    loop-less
-    loop-again
-    sub-result-2
-    returns-2)
+    (tie.spec Inv-loop μ-loop (λ c κs. omega arith) (λ c κs. omega arith) (λ c. omega arith) (λ c. omega arith)
+    (λ c. walk-start _ _ _ _ (omega arith)) (λ c κs. omega arith) (λ c. omega arith) returns
+    (λ c κs. omega arith) add-j-2 loop-less loop-again (λ c. omega arith) returns-2)

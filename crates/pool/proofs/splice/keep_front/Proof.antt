@@ -6,15 +6,6 @@ use borrow.Author.Needs.{needs}
 use Rattle.pool.proofs.splice.keep_front.Statement.{statement}
 use Rattle.pool.proofs.splice.keep_front.Tie as tie
 
-start-at-requires : tie.Need-start-at-requires
-start-at-requires c κs = search needs
-
-put-head-requires : tie.Need-put-head-requires
-put-head-requires c κs = search needs
-
-same-length : tie.Need-same-length
-same-length c = search needs
-
 returns : tie.Need-returns
 returns c =
     let e = c .before .before .put-head .ensures in (
@@ -23,4 +14,4 @@ returns c =
     )
 
 pub keep-front-spec : {M : Type 1} → statement M
-keep-front-spec = tie.close (tie.spec start-at-requires put-head-requires same-length returns)
+keep-front-spec = tie.close (tie.spec (λ c κs. search needs) (λ c κs. search needs) (λ c. search needs) returns)

@@ -6,9 +6,6 @@ use borrow.Author.Needs.{needs}
 use Rattle.pool.proofs.splice.label_room.Statement.{statement}
 use Rattle.pool.proofs.splice.label_room.Tie as tie
 
-len-at-requires : tie.Need-len-at-requires
-len-at-requires c κs = search needs
-
 returns : tie.Need-returns
 returns c = record { most = omega arith; enough = inr refl }
 
@@ -16,4 +13,4 @@ returns-2 : tie.Need-returns-2
 returns-2 c = record { most = omega arith; enough = inl (omega arith) }
 
 pub label-room-spec : {M : Type 1} → statement M
-label-room-spec = tie.close (tie.spec len-at-requires returns returns-2)
+label-room-spec = tie.close (tie.spec (λ c κs. search needs) returns returns-2)

@@ -1,7 +1,7 @@
 -- `pool::splice::relink` meets its contract: the spans of the slots passed are right. Assumes nothing.
 use Prim.Native.Nat.{_≤_}
 use native.Mathlib.Omega.{arith}
-use Rattle.pool.proofs.Reach.{Linking, linking-none, linking-at, linking-step, linking-done}
+use Rattle.pool.proofs.Reach.{Linking, linking-none, linking-step, linking-done}
 use Rattle.pool.proofs.splice.relink.Statement.{statement}
 use Rattle.pool.proofs.splice.relink.Tie as tie
 

@@ -7,15 +7,6 @@ use borrow.Author.Needs.{needs}
 use Rattle.pool.proofs.splice.settle.Statement.{statement}
 use Rattle.pool.proofs.splice.settle.Tie as tie
 
-cast-words : tie.Need-cast-words
-cast-words c = search needs
-
-slice-write-words : tie.Need-slice-write-words
-slice-write-words c = search needs
-
-relink-requires : tie.Need-relink-requires
-relink-requires c κs = search needs
-
 same-length : tie.Need-same-length
 same-length c = c .before .before .relink .ensures .len ∙ length-set (c .before .before .before .before .before .args .words .now) 0 (c .before .before .before .before .before .args .n)
 
@@ -23,4 +14,4 @@ returns : tie.Need-returns
 returns c = settled _ _ _ _ (omega arith) refl (c .before .before .relink .ensures)
 
 pub settle-spec : {M : Type 1} → statement M
-settle-spec = tie.close (tie.spec cast-words slice-write-words relink-requires same-length returns)
+settle-spec = tie.close (tie.spec (λ c. search needs) (λ c. search needs) (λ c κs. search needs) same-length returns)

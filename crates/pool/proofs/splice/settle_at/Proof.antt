@@ -8,12 +8,6 @@ use borrow.Author.Needs.{needs}
 use Rattle.pool.proofs.splice.settle_at.Statement.{statement}
 use Rattle.pool.proofs.splice.settle_at.Tie as tie
 
-cast-words : tie.Need-cast-words
-cast-words c = search needs
-
-slice-write-words : tie.Need-slice-write-words
-slice-write-words c = search needs
-
 raise-requires : tie.Need-raise-requires
 raise-requires c κs =
     let s = c .before .before in
@@ -30,4 +24,4 @@ returns c =
     settled _ _ _ _ (omega arith) refl (rw e at (c .before .before .raise .ensures))
 
 pub settle-at-spec : {M : Type 1} → statement M
-settle-at-spec = tie.close (tie.spec cast-words slice-write-words raise-requires same-length returns)
+settle-at-spec = tie.close (tie.spec (λ c. search needs) (λ c. search needs) raise-requires same-length returns)

@@ -8,15 +8,6 @@ use borrow.Author.Needs.{needs}
 use Rattle.walk.proofs.Walk.new.Statement.{statement}
 use Rattle.walk.proofs.Walk.new.Tie as tie
 
-blank-requires : tie.Need-blank-requires
-blank-requires c κs = search needs
-
-blank-requires-2 : tie.Need-blank-requires-2
-blank-requires-2 c κs = search needs
-
-array-borrow-prefix-kept : tie.Need-array-borrow-prefix-kept
-array-borrow-prefix-kept c = search needs
-
 slice-aggregate-copy : tie.Need-slice-aggregate-copy
 unfolding keyMax
 slice-aggregate-copy c = sym (length-take-le _ _ (omega (arith, c .before .before .blank2 .ensures)))
@@ -32,13 +23,4 @@ returns-2 : tie.Need-returns-2
 returns-2 c = begins-long _ _ refl refl (c .if1 .left)
 
 pub new-spec : {M : Type 1} → statement M
-new-spec =
-    tie.close
-    (tie.spec
-    blank-requires
-    blank-requires-2
-    array-borrow-prefix-kept
-    slice-aggregate-copy
-    copy-requires
-    returns
-    returns-2)
+new-spec = tie.close (tie.spec (λ c κs. search needs) (λ c κs. search needs) (λ c. search needs) slice-aggregate-copy copy-requires returns returns-2)
