@@ -15,7 +15,7 @@ use Rattle.pool.specs.Put.{SlotPut}
 use Rattle.pool.proofs.Stands.{Stands, stands-at}
 use Rattle.pool.proofs.Puts.{stands-keep}
 use Rattle.reader.specs.declared.fill.Cursor.{Cursor}
-use Rattle.reader.specs.Fill.{bytesF, RecordIs, Lies, NodeLies, Room, SlotDue, recRead, RecordDue, Behind, NodeDue, KidsDue, ownRec, NodeIn, KidsIn, NodeFilled, KidsFilled}
+use Rattle.reader.specs.Fill.{bytesF, RecordIs, Lies, NodeLies, Room, SlotDue, recRead, Behind, NodeDue, KidsDue, ownRec, NodeIn, KidsIn, NodeFilled, KidsFilled}
 use Rattle.reader.proofs.Lying.{lies-at}
 
 -- A slot that was written from what the code read of the record

@@ -6,19 +6,10 @@ use borrow.Author.Needs.{needs}
 use Rattle.flags.proofs.flag_byte.Statement.{statement}
 use Rattle.flags.proofs.flag_byte.Tie as tie
 
-both-bits-requires : tie.Need-both-bits-requires
-both-bits-requires c κs = search needs
-
-both-bits-requires-2 : tie.Need-both-bits-requires-2
-both-bits-requires-2 c κs = search needs
-
 add-result : tie.Need-add-result
 add-result c =
     let start = c .before .before in
     omega (arith, pair-most (start .args .number) 3, pair-most (start .args .child) 12)
-
-both-bits-requires-3 : tie.Need-both-bits-requires-3
-both-bits-requires-3 c κs = search needs
 
 add-result-2 : tie.Need-add-result-2
 add-result-2 c =
@@ -32,9 +23,9 @@ pub flag-byte-spec : {M : Type 1} → statement M
 flag-byte-spec =
     tie.close
     (tie.spec
-    both-bits-requires
-    both-bits-requires-2
+    (λ c κs. search needs)
+    (λ c κs. search needs)
     add-result
-    both-bits-requires-3
+    (λ c κs. search needs)
     add-result-2
     returns)

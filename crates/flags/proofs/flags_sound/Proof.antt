@@ -5,23 +5,6 @@ use Rattle.flags.proofs.Pairs.{paired, unpaired}
 use borrow.Author.Needs.{needs}
 use Rattle.flags.proofs.flags_sound.Statement.{statement}
 use Rattle.flags.proofs.flags_sound.Tie as tie
-use Rattle.flags.proofs.flags_sound.Reads as reads
-use Rattle.flags.proofs.flags_sound.Lts as lts
-
-mul-lower : tie.Need-mul-lower
-mul-lower c = search needs
-
-add-lower : tie.Need-add-lower
-add-lower c = search needs
-
-mul-lower-2 : tie.Need-mul-lower-2
-mul-lower-2 c = search needs
-
-add-lower-2 : tie.Need-add-lower-2
-add-lower-2 c = search needs
-
-mul-if1 : tie.Need-mul-if1
-mul-if1 c = search needs
 
 returns : tie.Need-returns
 returns c = one-fails _ (λ h. c .if1 .taken (unpaired _ (omega (arith, h))))
@@ -30,9 +13,6 @@ returns-2 : tie.Need-returns-2
 returns-2 c =
     let p = paired _ (c .before .before .if1 .left) in
     all-pass _ (omega (arith, p, below-other (c .before .before .before .args .level .0) (c .if2 .taken)))
-
-has-sibling-requires : tie.Need-has-sibling-requires
-has-sibling-requires c κs = search needs
 
 returns-3 : tie.Need-returns-3
 returns-3 c = one-fails _ (λ h. c .if3 .taken (omega (arith, h, below-root (c .before .before .before .before .before .args .level .0) (c .before .before .if2 .left))))
@@ -46,13 +26,13 @@ pub flags-sound-spec : {M : Type 1} → statement M
 flags-sound-spec =
     tie.close
     (tie.spec
-    mul-lower
-    add-lower
-    mul-lower-2
-    add-lower-2
-    mul-if1
+    (λ c. search needs)
+    (λ c. search needs)
+    (λ c. search needs)
+    (λ c. search needs)
+    (λ c. search needs)
     returns
     returns-2
-    has-sibling-requires
+    (λ c κs. search needs)
     returns-3
     returns-4)

@@ -7,15 +7,10 @@ use Rattle.reader.proofs.Verdicts.{verdict-refused, verdict-broken, ver
 use borrow.Author.Needs.{needs}
 use Rattle.reader.proofs.check.Statement.{statement}
 use Rattle.reader.proofs.check.Tie as tie
-use Rattle.reader.proofs.check.Reads as reads
-use Rattle.reader.proofs.check.Lts as lts
 
 -- a root that the check went through
 passed : (c : tie.Else1) → RootChecked (c .before .before .before .before .args .tree .now) (c .before .before .before .before .args .numbers) (went (c .before .before .check-root .result .to))
 passed c = node-sound _ _ _ _ _ _ (not-false _ (c .if1 .left)) (c .before .before .check-root .ensures)
-
-check-root-requires : tie.Need-check-root-requires
-check-root-requires c κs = search needs
 
 returns : tie.Need-returns
 returns c = verdict-refused _ _ _ _ _ (node-fault _ _ _ _ _ _ (start (c .before .before .before .before .args .numbers)) (not-true _ (c .if1 .taken)) (c .before .before .check-root .ensures))
@@ -34,4 +29,4 @@ returns-5 c = verdict-ok _ _ _ _ (passed (c .before .before .before .before .bef
 
 pub check-spec : {M : Type 1} → statement M
 check-spec =
-    tie.close (tie.spec check-root-requires returns returns-2 returns-3 returns-4 returns-5)
+    tie.close (tie.spec (λ c κs. search needs) returns returns-2 returns-3 returns-4 returns-5)

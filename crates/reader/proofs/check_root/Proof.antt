@@ -8,8 +8,6 @@ use Rattle.reader.proofs.Walk.{Passed, node-passed, node-broken, node-l
 use borrow.Author.Needs.{needs}
 use Rattle.reader.proofs.check_root.Statement.{statement}
 use Rattle.reader.proofs.check_root.Tie as tie
-use Rattle.reader.proofs.check_root.Reads as reads
-use Rattle.reader.proofs.check_root.Lts as lts
 
 -- a root that passed its tests
 passed : (c : tie.After-enum-told) → Passed (c .before .before .before .before .args .tree .now) 0 0 (start (c .before .before .before .before .args .numbers))
@@ -21,12 +19,6 @@ bare c =
     let o = passed c in
     omega arith
 
-test-root-requires : tie.Need-test-root-requires
-test-root-requires c κs = search needs
-
-enum-known-found : tie.Need-enum-known-found
-enum-known-found c = search needs
-
 returns : tie.Need-returns
 returns c = node-broken _ _ _ _ _ _ _ (rw (c .before .found .given .1) at (c .before .before .before .test-root .ensures))
 
@@ -36,20 +28,11 @@ enum-told c = search needs
 shared-slice-read-has-number : tie.Need-shared-slice-read-has-number
 shared-slice-read-has-number c = let o = passed (c .before) in omega arith
 
-has-number-requires : tie.Need-has-number-requires
-has-number-requires c κs = search needs
-
 sub-left : tie.Need-sub-left
 sub-left c = let o = passed (c .before .before) in omega arith
 
 shared-slice-read-has-child : tie.Need-shared-slice-read-has-child
 shared-slice-read-has-child c = let o = passed (c .before .before .before) in omega arith
-
-has-child-requires : tie.Need-has-child-requires
-has-child-requires c κs = search needs
-
-went-requires : tie.Need-went-requires
-went-requires c κs = search needs
 
 returns-2 : tie.Need-returns-2
 returns-2 c =
@@ -72,16 +55,16 @@ pub check-root-spec : {M : Type 1} → statement M
 check-root-spec =
     tie.close
     (tie.spec
-    test-root-requires
-    enum-known-found
+    (λ c κs. search needs)
+    (λ c. search needs)
     returns
     enum-told
     shared-slice-read-has-number
-    has-number-requires
+    (λ c κs. search needs)
     sub-left
     shared-slice-read-has-child
-    has-child-requires
-    went-requires
+    (λ c κs. search needs)
+    (λ c κs. search needs)
     returns-2
     check-kids-requires
     returns-3)

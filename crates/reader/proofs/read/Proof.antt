@@ -7,40 +7,13 @@ use borrow.Author.Needs.{needs}
 use Rattle.reader.proofs.read.Statement.{statement}
 use Rattle.reader.proofs.read.Tie as tie
 
-slots-of-requires : tie.Need-slots-of-requires
-slots-of-requires c κs = search needs
-
-enum-known-slots : tie.Need-enum-known-slots
-enum-known-slots c = search needs
-
-enum-told : tie.Need-enum-told
-enum-told c = search needs
-
-same-length : tie.Need-same-length
-same-length c = search needs
-
-same-length-2 : tie.Need-same-length-2
-same-length-2 c = search needs
-
 returns : tie.Need-returns
 returns c = not-pool _ _ _ _ (sym (rw (c .enum-told .given .1) at (c .before .before .slots-of .ensures)))
-
-check-requires : tie.Need-check-requires
-check-requires c κs = search needs
-
-enum-told-2 : tie.Need-enum-told-2
-enum-told-2 c = search needs
 
 fill-tree-requires : tie.Need-fill-tree-requires
 fill-tree-requires c κs =
     let slots = sym (rw (c .before .before .before .before .before .before .slots .given .1) at (c .before .before .before .before .before .before .before .before .slots-of .ensures)) in
     fill-due _ _ _ _ _ slots _ (sym (ap countOf (c .before .before .enum-told2 .given .1)) ∙ c .before .before .before .before .check .ensures (c .before .before .before .before .before .before .before .before .before .before .before .before .before .before .before .args .numbers .now) refl)
-
-enum-told-3 : tie.Need-enum-told-3
-enum-told-3 c = search needs
-
-answer-requires : tie.Need-answer-requires
-answer-requires c κs = search needs
 
 same-length-3 : tie.Need-same-length-3
 same-length-3 c = ⊎-elim (λ w. rw (w .9) (search needs)) (λ w. rw (w .2) (search needs)) (c .before .match2 .came)
@@ -59,17 +32,17 @@ pub read-spec : {M : Type 1} → statement M
 read-spec =
     tie.close
     (tie.spec
-    slots-of-requires
-    enum-known-slots
-    enum-told
-    same-length
-    same-length-2
+    (λ c κs. search needs)
+    (λ c. search needs)
+    (λ c. search needs)
+    (λ c. search needs)
+    (λ c. search needs)
     returns
-    check-requires
-    enum-told-2
+    (λ c κs. search needs)
+    (λ c. search needs)
     fill-tree-requires
-    enum-told-3
-    answer-requires
+    (λ c. search needs)
+    (λ c κs. search needs)
     same-length-3
     same-length-4
     returns-2)

@@ -11,8 +11,6 @@ use Rattle.reader.proofs.Tests.{snoc, broken-at, all-sound, below-is, f
 use borrow.Author.Needs.{needs}
 use Rattle.reader.proofs.test_head.Statement.{statement}
 use Rattle.reader.proofs.test_head.Tie as tie
-use Rattle.reader.proofs.test_head.Reads as reads
-use Rattle.reader.proofs.test_head.Lts as lts
 
 abbrev table : tie.Start → List Rule
 table c = headRules (c .args .tree .now) (c .args .level .0) (c .args .at)
@@ -29,58 +27,16 @@ past-length c =
     let d = below-is (c .before .before .before .before .before .before .before .before .before .before .before .before .before .before .args .level .0) (omega arith) in
     snoc (table (c .before .before .before .before .before .before .before .before .before .before .before .before .before .before)) 8 (snoc (table (c .before .before .before .before .before .before .before .before .before .before .before .before .before .before)) 7 (past-level (c .before .before .before)) (omega arith)) (omega arith)
 
-sub-room : tie.Need-sub-room
-sub-room c = search needs
-
 returns : tie.Need-returns
 returns c = broken-at _ 0 tt (omega arith)
-
-shared-slice-read-flags-sound : tie.Need-shared-slice-read-flags-sound
-shared-slice-read-flags-sound c = search needs
-
-flags-sound-requires : tie.Need-flags-sound-requires
-flags-sound-requires c κs = search needs
 
 returns-2 : tie.Need-returns-2
 returns-2 c =
     let a = c .before .before .before .before .before .args in
     flags-broken (a .tree .now) 0 (a .level .0) 0 0 (a .at) (omega arith) (sym (c .before .flags-sound .ensures) ∙ not-true _ (c .if2 .taken))
 
-add-wide : tie.Need-add-wide
-add-wide c = search needs
-
-shared-slice-read-wide : tie.Need-shared-slice-read-wide
-shared-slice-read-wide c = search needs
-
-wide-requires : tie.Need-wide-requires
-wide-requires c κs = search needs
-
-mul-if3 : tie.Need-mul-if3
-mul-if3 c = search needs
-
-add-wide-2 : tie.Need-add-wide-2
-add-wide-2 c = search needs
-
-shared-slice-read-wide-2 : tie.Need-shared-slice-read-wide-2
-shared-slice-read-wide-2 c = search needs
-
-wide-requires-2 : tie.Need-wide-requires-2
-wide-requires-2 c κs = search needs
-
-add-if3 : tie.Need-add-if3
-add-if3 c = search needs
-
 returns-3 : tie.Need-returns-3
 returns-3 c = broken-at _ 6 (past-flags (c .before .before .before .before .before .before)) (λ e. c .if3 .taken (omega arith))
-
-add-wide-3 : tie.Need-add-wide-3
-add-wide-3 c = search needs
-
-shared-slice-read-wide-3 : tie.Need-shared-slice-read-wide-3
-shared-slice-read-wide-3 c = search needs
-
-wide-requires-3 : tie.Need-wide-requires-3
-wide-requires-3 c κs = search needs
 
 returns-4 : tie.Need-returns-4
 returns-4 c =
@@ -97,23 +53,23 @@ pub test-head-spec : {M : Type 1} → statement M
 test-head-spec =
     tie.close
     (tie.spec
-    sub-room
+    (λ c. search needs)
     returns
-    shared-slice-read-flags-sound
-    flags-sound-requires
+    (λ c. search needs)
+    (λ c κs. search needs)
     returns-2
-    add-wide
-    shared-slice-read-wide
-    wide-requires
-    mul-if3
-    add-wide-2
-    shared-slice-read-wide-2
-    wide-requires-2
-    add-if3
+    (λ c. search needs)
+    (λ c. search needs)
+    (λ c κs. search needs)
+    (λ c. search needs)
+    (λ c. search needs)
+    (λ c. search needs)
+    (λ c κs. search needs)
+    (λ c. search needs)
     returns-3
-    add-wide-3
-    shared-slice-read-wide-3
-    wide-requires-3
+    (λ c. search needs)
+    (λ c. search needs)
+    (λ c κs. search needs)
     returns-4
     returns-5
     returns-6)

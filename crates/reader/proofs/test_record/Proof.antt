@@ -6,14 +6,6 @@ use Rattle.reader.proofs.Tests.{below-is, record-past, record-stop}
 use borrow.Author.Needs.{needs}
 use Rattle.reader.proofs.test_record.Statement.{statement}
 use Rattle.reader.proofs.test_record.Tie as tie
-use Rattle.reader.proofs.test_record.Reads as reads
-use Rattle.reader.proofs.test_record.Lts as lts
-
-test-head-requires : tie.Need-test-head-requires
-test-head-requires c κs = search needs
-
-enum-known-head : tie.Need-enum-known-head
-enum-known-head c = search needs
 
 enum-told : tie.Need-enum-told
 enum-told c = search needs
@@ -40,4 +32,4 @@ returns-2 c =
 pub test-record-spec : {M : Type 1} → statement M
 test-record-spec =
     tie.close
-    (tie.spec test-head-requires enum-known-head enum-told test-body-requires returns returns-2)
+    (tie.spec (λ c κs. search needs) (λ c. search needs) enum-told test-body-requires returns returns-2)

@@ -14,8 +14,6 @@ use Rattle.reader.proofs.Tests.{snoc, broken-at, all-sound, flags-broke
 use borrow.Author.Needs.{needs}
 use Rattle.reader.proofs.test_root.Statement.{statement}
 use Rattle.reader.proofs.test_root.Tie as tie
-use Rattle.reader.proofs.test_root.Reads as reads
-use Rattle.reader.proofs.test_root.Lts as lts
 
 abbrev table : tie.Start → List Rule
 table c = countRules (c .args .tree .now) (c .args .numbers) 0 0 0 0
@@ -38,53 +36,20 @@ past-length c =
 returns : tie.Need-returns
 returns c = broken-at _ 0 tt (omega arith)
 
-shared-slice-read-flags-sound : tie.Need-shared-slice-read-flags-sound
-shared-slice-read-flags-sound c = search needs
-
-flags-sound-requires : tie.Need-flags-sound-requires
-flags-sound-requires c κs = search needs
-
 returns-2 : tie.Need-returns-2
 returns-2 c =
     let a = c .before .before .before .before .before .args in
     record-stop (a .tree .now) (a .numbers) 0 0 0 0
     (sym (flags-broken (a .tree .now) 0 0 0 0 0 (omega arith) (sym (c .before .flags-sound .ensures) ∙ not-true _ (c .if2 .taken))))
 
-shared-slice-read-wide : tie.Need-shared-slice-read-wide
-shared-slice-read-wide c = search needs
-
-wide-requires : tie.Need-wide-requires
-wide-requires c κs = search needs
-
-mul-if3 : tie.Need-mul-if3
-mul-if3 c = search needs
-
-shared-slice-read-wide-2 : tie.Need-shared-slice-read-wide-2
-shared-slice-read-wide-2 c = search needs
-
-wide-requires-2 : tie.Need-wide-requires-2
-wide-requires-2 c κs = search needs
-
-add-if3 : tie.Need-add-if3
-add-if3 c = search needs
-
 returns-3 : tie.Need-returns-3
 returns-3 c = broken-at _ 6 (past-flags (c .before .before .before .before .before)) (λ e. c .if3 .taken (omega arith))
-
-shared-slice-read-if4 : tie.Need-shared-slice-read-if4
-shared-slice-read-if4 c = search needs
 
 returns-4 : tie.Need-returns-4
 returns-4 c =
     let r = below-root 0 refl in
     let rules = table (c .before .before .before .before .before .before .before .before .before .before .before .before) in
     broken-at _ 8 (snoc rules 7 (past-level (c .before .before)) (omega arith)) (omega arith)
-
-shared-slice-read-has-number : tie.Need-shared-slice-read-has-number
-shared-slice-read-has-number c = search needs
-
-has-number-requires : tie.Need-has-number-requires
-has-number-requires c κs = search needs
 
 returns-5 : tie.Need-returns-5
 returns-5 c = broken-at _ 13 (past-length (c .before .before .before)) (omega arith)
@@ -97,19 +62,19 @@ test-root-spec =
     tie.close
     (tie.spec
     returns
-    shared-slice-read-flags-sound
-    flags-sound-requires
+    (λ c. search needs)
+    (λ c κs. search needs)
     returns-2
-    shared-slice-read-wide
-    wide-requires
-    mul-if3
-    shared-slice-read-wide-2
-    wide-requires-2
-    add-if3
+    (λ c. search needs)
+    (λ c κs. search needs)
+    (λ c. search needs)
+    (λ c. search needs)
+    (λ c κs. search needs)
+    (λ c. search needs)
     returns-3
-    shared-slice-read-if4
+    (λ c. search needs)
     returns-4
-    shared-slice-read-has-number
-    has-number-requires
+    (λ c. search needs)
+    (λ c κs. search needs)
     returns-5
     returns-6)

@@ -8,8 +8,6 @@ use Rattle.reader.proofs.Fills.{kids-due, Below, bare, peopled, reach, 
 use borrow.Author.Needs.{needs}
 use Rattle.reader.proofs.fill.fill_root.Statement.{statement}
 use Rattle.reader.proofs.fill.fill_root.Tie as tie
-use Rattle.reader.proofs.fill.fill_root.Reads as reads
-use Rattle.reader.proofs.fill.fill_root.Lts as lts
 
 -- what is below the root
 under : (c : tie.Joined1) → Below (c .before .before .before .before .before .before .before .before .args .tree .now) (c .before .before .before .before .before .before .before .before .args .numbers .now) (c .before .before .before .before .before .before .before .before .args .words .now) (c .before .before .before .before .before .before .before .before .args .labels .now) (c .if1 .words) (c .if1 .labels) 0 front (c .if1 .end)
@@ -30,9 +28,6 @@ behind-requires c κs =
 
 shared-slice-read-has-child : tie.Need-shared-slice-read-has-child
 shared-slice-read-has-child c = let o = c .before .before .before .before .before .before .pre .0 .lies .own in omega arith
-
-has-child-requires : tie.Need-has-child-requires
-has-child-requires c κs = search needs
 
 fill-kids-requires : tie.Need-fill-kids-requires
 fill-kids-requires c κs = kids-due _ _ _ _ _ _ (c .before .before .before .before .before .before .before .before .before .before .pre .0) _ _ (c .before .before .before .before .before .behind .ensures) (omega arith) (λ z. absurd (omega arith))
@@ -55,7 +50,7 @@ fill-root-spec =
     (tie.spec
     behind-requires
     shared-slice-read-has-child
-    has-child-requires
+    (λ c κs. search needs)
     fill-kids-requires
     fill-slot-requires
     same-length

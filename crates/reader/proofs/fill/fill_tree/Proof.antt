@@ -6,8 +6,6 @@ use Rattle.reader.proofs.Whole.{root-due, root-bare, few, filled}
 use borrow.Author.Needs.{needs}
 use Rattle.reader.proofs.fill.fill_tree.Statement.{statement}
 use Rattle.reader.proofs.fill.fill_tree.Tie as tie
-use Rattle.reader.proofs.fill.fill_tree.Reads as reads
-use Rattle.reader.proofs.fill.fill_tree.Lts as lts
 
 -- The image's bytes are bytes.
 bytes : (c : tie.After-shared-slice-known) → Bytes (c .before .before .before .args .tree .now)
@@ -28,12 +26,6 @@ put-nodes-requires c κs =
     let g = few _ _ _ _ (bytes known) (known .before .before .before .pre) _ _ _ (c .before .before .before .before .before .before .fill-root .ensures) in
     omega arith
 
-same-length : tie.Need-same-length
-same-length c = search needs
-
-same-length-2 : tie.Need-same-length-2
-same-length-2 c = search needs
-
 returns : tie.Need-returns
 returns c =
     let known = c .before .before .before .before .before .before .before .before .before .before .before .before .before in
@@ -46,6 +38,6 @@ fill-tree-spec =
     fill-root-requires
     cast-put-nodes
     put-nodes-requires
-    same-length
-    same-length-2
+    (λ c. search needs)
+    (λ c. search needs)
     returns)
