@@ -7,6 +7,8 @@ use mathlib.Core.Option.{none, some}
 use mathlib.Core.Logic.{inl, inr}
 use Prim.Native.Nat.{ℕ, zero, suc, _+_, _*_, _-_, _/_, _≤_, _<_}
 use native.Mathlib.Omega.{arith}
+use mir.Syntax.{w64}
+use mir.Val.{Fits}
 use lib.Dec.{ltb}
 use lib.ListN.{length, getD, take, drop, length-drop, length-append}
 use lib.Seq.{take-all, drop-drop, drop-at, getD-append-seam}
@@ -35,7 +37,7 @@ use Rattle.search.specs.declared.Descent.{Descent}
 use Rattle.search.specs.Landing.{Ends, Place, PlaceOf}
 use Rattle.search.proofs.Places.{plug-stands, plug-wf, plug-nodes, nodes-node, leads-drop, leads-length}
 use Rattle.search.proofs.Answers.{Known, tree, tree-is, holds, place, gotAt, get-place, place-within}
-use Rattle.insert.specs.Splices.{leafBares, Opens, Cuts, Forks, forkBares, forkSide, forkWas, total, Placed, full, leafNodes, KeyLeft, newNodes}
+use Rattle.insert.specs.Splices.{leafBares, Grows, Opens, Cuts, Forks, forkBares, forkSide, forkWas, total, Placed, full, leafNodes, KeyLeft, newNodes}
 use Rattle.insert.proofs.Steps.{Step, front-whole, front-cut, back-cut, gap-step, same-step, inside-step, before-step, behind-step}
 use Rattle.insert.proofs.Leaves.{leaf-length}
 use Rattle.insert.proofs.Room.{new-at, fork-count}
@@ -315,6 +317,12 @@ root-place : (t : Tree) (key : Key) (at end up above : ℕ) → PlaceOf t key St
 root-place t [] at end up above p = p
 root-place t (a ∷ k) at end up above p = absurd (p .ends)
 
+-- The room that the code has tested for
+pub grows-by : {ws bs : List ℕ} → PoolRule ws bs → (n k : ℕ) → n ≡ nodesOf ws → n + k ≤ length bs / 255 → Grows ws bs n k
+grows-by r n k e h =
+    let l = r .lengths in
+    record { nodes = e; within = record { words = omega arith; labels = omega arith }; most = omega arith; room = h }
+
 -- What the code places where its search has ended meets the call's contract.
 module _ {ws bs key : List ℕ} {d : Descent} (w : Known ws bs key d) where
   slots-are : 6 * nodesOf ws + 8 ≤ length ws
@@ -364,6 +372,15 @@ module _ {ws bs key : List ℕ} {d : Descent} (w : Known ws bs key d) where
   unfolding keyMax
   fork-asks m e = fork-ready (holds w) key m (d .at .0) (d .end .0) (d .parent .0) (d .above) (w .short) (place w (Stop.Fork m) e)
 
+  -- the fork is within the key
+  module _ (m : ℕ) (e : d .stop ≡ Stop.Fork m) where
+    pub from-most : d .above + m ≤ length key
+    from-most = omega (arith, fork-asks m e .0)
+
+    pub from-fits : Fits w64 (d .above + m)
+    unfolding keyMax
+    from-fits = omega (arith, from-most, w .short)
+
   -- what is left of the key, and the slots that it takes
   pub left-asks : (s : Stop) → d .stop ≡ s → KeyLeft s (d .above) (length key)
   left-asks Stop.Root e = tt
@@ -387,19 +404,18 @@ module _ {ws bs key : List ℕ} {d : Descent} (w : Known ws bs key d) where
       let f = fork-asks m e .1 in
       omega (arith, fork-count ws bs (d .at .0) m q v (forkSide ws bs (d .at .0) m q) (f .left) (f .span))
 
-  -- there is room, as the code has counted it
-  module _ (n k : ℕ) (nodes : n ≡ nodesOf ws) (count : k ≡ newNodes (d .stop) (d .above) (length key)) where
-    room-at : n + k ≤ length bs / 255 → (s : Stop) → d .stop ≡ s → nodesOf ws + newNodes s (d .above) (length key) ≤ slotsIn bs
-    room-at h s e = omega (arith, new-at (d .above) (length key) e)
+  -- how many slots the code has counted
+  module _ (k : ℕ) (count : k ≡ newNodes (d .stop) (d .above) (length key)) where
+    pub gap-slots : d .stop ≡ Stop.Gap → k ≡ leafNodes (length (left key (d .above)))
+    gap-slots e = rw (left-length key (d .above)) (count ∙ new-at (d .above) (length key) e)
 
-    pub gap-room : n + k ≤ length bs / 255 → d .stop ≡ Stop.Gap → nodesOf ws + leafNodes (length (left key (d .above))) ≤ slotsIn bs
-    gap-room h e = rw (left-length key (d .above)) (room-at h Stop.Gap e)
+    pub inside-grows : (n : ℕ) → Grows ws bs n k → (m : ℕ) → d .stop ≡ Stop.Inside m → Grows ws bs n 1
+    inside-grows n g m e =
+        let one : k ≡ 1 = count ∙ new-at (d .above) (length key) e in
+        rw one at g
 
-    pub inside-room : n + k ≤ length bs / 255 → (m : ℕ) → d .stop ≡ Stop.Inside m → nodesOf ws + 1 ≤ slotsIn bs
-    inside-room h m e = room-at h (Stop.Inside m) e
-
-    pub fork-room : n + k ≤ length bs / 255 → (m : ℕ) → d .stop ≡ Stop.Fork m → nodesOf ws + (1 + leafNodes (length (left key (d .above + m)))) ≤ slotsIn bs
-    fork-room h m e = rw (left-length key (d .above + m)) (room-at h (Stop.Fork m) e)
+    pub fork-slots : (m : ℕ) → d .stop ≡ Stop.Fork m → k ≡ 1 + leafNodes (length (left key (d .above + m)))
+    fork-slots m e = rw (left-length key (d .above + m)) (count ∙ new-at (d .above) (length key) e)
 
   pub meets : Bytes key → (v : ℕ) (s : Stop) → d .stop ≡ s → (vs cs : List ℕ) (told : Told)
       → Placed ws bs vs cs (d .at .0) (wasAt ws bs key (d .at .0) (d .above) s) (nowAt ws bs key v (d .at .0) (d .above) s) (done (numbersW (gotAt s (numAt ws (d .at .0))) [])) told

@@ -2,6 +2,7 @@ pub mod Leaves
 pub mod Places
 pub mod Spans
 pub mod Parts
+pub mod Asks
 pub mod Room
 pub mod Steps
 pub mod Grown

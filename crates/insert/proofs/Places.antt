@@ -18,26 +18,13 @@ use Rattle.pool.proofs.Bares.{start-is, len-is}
 use Rattle.pool.proofs.Cuts.{label-length}
 use Rattle.pool.proofs.Spans.{Rests, rule-rests}
 use Rattle.pool.proofs.Runs.{Parts, run-cons, run-whole, run-ext, run-length}
-use Rattle.insert.specs.Splices.{leafNodes, leafBares, Built, Opens, Cuts, Replaced, Forks, forkBares}
+use Rattle.insert.specs.Splices.{leafNodes, leafBares, Built, Grows, Opens, Cuts, Replaced, Forks, forkBares}
 use Rattle.insert.proofs.Leaves.{run-one, leaf-length}
-use Rattle.insert.proofs.Spans.{like, Leafy, leafy-kept, built-leafy, loose-at, leaf-loose}
+use Rattle.insert.proofs.Spans.{like, Leafy, leafy-none, leafy-kept, built-leafy, leaf-loose}
 use Rattle.insert.proofs.Parts.{Upper, Lower, before-loose, behind-loose}
 
--- A slot that says what slot `at` said can be cut like it.
-pub record Cut (ws : List ℕ) (at m : ℕ) : Type 0 where
-  pub cut : m ≤ lenOf ws at
-  pub short : lenOf ws at ≤ 255
-  pub start : startOf ws at ≤ 4096
-
-pub cut-same : (ws bs us ds : List ℕ) (at i m : ℕ) → Cuts ws at m → bareAt us ds i ≡ bareAt ws bs at → Cut us i m
-unfolding bareAt
-cut-same ws bs us ds at i m c e =
-    let l : lenOf us i ≡ lenOf ws at = ap (λ (x : Bare). x .len) e in
-    let s : startOf us i ≡ startOf ws at = ap (λ (x : Bare). x .start) e in
-    record { cut = omega (arith, c .cut); short = omega (arith, c .short); start = omega (arith, c .start) }
-
 -- A leaf in a gap
-pub opened : (ws bs us ds vs cs : List ℕ) (at n k : ℕ) (xs : List Bare) → n ≡ nodesOf ws → at ≤ n → Within ws bs (n + k) → length xs ≡ k
+opened : (ws bs us ds vs cs : List ℕ) (at n k : ℕ) (xs : List Bare) → n ≡ nodesOf ws → at ≤ n → Within ws bs (n + k) → length xs ≡ k
     → Moved ws bs us ds at n k → Built us ds vs cs at xs → Replaced ws bs vs cs at 0 xs
 opened ws bs us ds vs cs at n k xs e h w l m b =
     let ld = m .lenB in
@@ -57,19 +44,21 @@ opened ws bs us ds vs cs at n k xs e h w l m b =
 rests-are : (ws bs : List ℕ) (n : ℕ) → n ≡ nodesOf ws → PoolRule ws bs → (j : ℕ) → j < n → Rests ws n j
 rests-are ws bs n e r = rw e (rule-rests ws bs r)
 
-pub opened-loose : (ws bs us ds vs cs : List ℕ) (at n k s : ℕ) (q : Key) (v : ℕ) → n ≡ nodesOf ws → Opens ws bs at s q → Within ws bs (n + k) → k ≡ leafNodes (length q)
-    → Moved ws bs us ds at n k → Built us ds vs cs at (leafBares s q v) → Loose vs (nodesOf ws + leafNodes (length q)) at (leafNodes (length q)) 0
-opened-loose ws bs us ds vs cs at n k s q v e o w kn m b =
+pub leaf-opened : {ws bs us ds vs cs : List ℕ} {at n k s : ℕ} {q : Key} (v : ℕ) → Grows ws bs n k → Opens ws bs at s q → k ≡ leafNodes (length q) → Moved ws bs us ds at n k
+    → Built us ds vs cs at (leafBares s q v) → Replaced ws bs vs cs at 0 (leafBares s q v) × Loose vs (n + k) at k 0
+leaf-opened {ws} {bs} {us} {ds} {vs} {cs} {at} {n} {k} {s} {q} v g o kn m b =
+    let e = g .nodes in
     let ld = m .lenB in
-    let wl = w .labels in
+    let wl = g .within .labels in
     let inside = o .inside in
     let l = leaf-length s q v (o .left) ∙ sym kn in
-    let one : 1 ≤ k = omega arith in
-    loose-at (omega arith) kn
-    (leaf-loose ws vs n at k s (rests-are ws bs n e (o .rule)) (omega arith) one (λ h. o .beside (omega arith))
-    (λ i h. like ws bs vs cs i i (b .low i h (omega arith) ∙ m .low i (omega arith)) (b .low-span i h ∙ m .low-span i (omega arith)))
-    (λ i h g. like ws bs vs cs i (i + k) (b .high (i + k) (omega arith) (omega arith) ∙ m .moved i h g) (b .high-span (i + k) (omega arith) ∙ m .moved-span i h g))
-    (built-leafy us ds vs cs at s q v k (o .left) l b))
+    let one : 1 ≤ k = omega arith in (
+      opened ws bs us ds vs cs at n k (leafBares s q v) e (omega arith) (g .within) l m b,
+      leaf-loose ws vs n at k s (rests-are ws bs n e (o .rule)) (omega arith) one (λ h. o .beside (omega arith))
+          (λ i h. like ws bs vs cs i i (b .low i h (omega arith) ∙ m .low i (omega arith)) (b .low-span i h ∙ m .low-span i (omega arith)))
+          (λ i h p. like ws bs vs cs i (i + k) (b .high (i + k) (omega arith) (omega arith) ∙ m .moved i h p) (b .high-span (i + k) (omega arith) ∙ m .moved-span i h p))
+          (built-leafy us ds vs cs at s q v k (o .left) l b),
+    )
 
 -- The two parts of a cut
 module _ (ws bs vs cs : List ℕ) (at lo m : ℕ) (cut : m ≤ lenOf ws at) (short : lenOf ws at ≤ 255) (room : 255 * at + 255 ≤ length bs) where
@@ -96,7 +85,7 @@ pub built-none : (ws bs : List ℕ) (at : ℕ) → Built ws bs ws bs at []
 built-none ws bs at = record { lenW = refl; lenB = refl; head = λ j h. refl; slots = unfold run in refl; low = λ i h r. refl; high = λ i h r. refl; low-span = λ i h. refl; new-span = λ i h l. absurd (omega arith); high-span = λ i h. refl }
 
 -- A cut with the records xs between its parts: the slots from `at` on have moved up by one more than there are xs.
-module _ (ws bs us ds : List ℕ) (at n k m lo : ℕ) (le : lo ≡ at + 1 + k) (e : n ≡ nodesOf ws) (c : Cuts ws at m) (w : Within ws bs (n + 1 + k)) (mv : Moved ws bs us ds at n (1 + k)) where
+module _ (ws bs us ds : List ℕ) (at n k m lo : ℕ) (le : lo ≡ at + 1 + k) (e : n ≡ nodesOf ws) (c : Cuts ws at m) (w : Within ws bs (n + (1 + k))) (mv : Moved ws bs us ds at n (1 + k)) where
   -- the upper part is still there, and so is the lower one, further up
   pub upper-there : bareAt us ds at ≡ bareAt ws bs at
   upper-there = mv .low at (omega arith)
@@ -175,22 +164,21 @@ module _ (ws bs us ds : List ℕ) (at n k m lo : ℕ) (le : lo ≡ at + 1 + k) (
           (leafy-kept vs₂ vs₃ (at + 1) k (startOf ws at + m) (λ i h q. like vs₂ cs₂ vs₃ cs₃ i i (g .others i (λ y. omega arith) (omega arith)) (g .spans i (λ y. omega arith))) leaf)
 
 -- as the code leaves them: each part is made of what stands in its slot
-pub cut-parts : (ws bs us ds vs cs vs₂ cs₂ vs₃ cs₃ : List ℕ) (at n k m lo : ℕ) (u : Num) (xs : List Bare) → lo ≡ at + 1 + k → n ≡ nodesOf ws → Cuts ws at m → Within ws bs (n + 1 + k)
+pub cut-parts : (ws bs us ds vs cs vs₂ cs₂ vs₃ cs₃ : List ℕ) (at n k m lo : ℕ) (u : Num) (xs : List Bare) → lo ≡ at + 1 + k → n ≡ nodesOf ws → Cuts ws at m → Within ws bs (n + (1 + k))
     → PoolRule ws bs → Moved ws bs us ds at n (1 + k)
     → Filled us ds vs cs at (frontOf m u (bareAt us ds at)) × (spanOf vs at ≡ spanOf us at) → length xs ≡ k → Built vs cs vs₂ cs₂ (at + 1) xs
     → Leafy vs₂ (at + 1) k (startOf ws at + m) → Filled vs₂ cs₂ vs₃ cs₃ lo (backOf m (bareAt vs₂ cs₂ lo)) × (spanOf vs₃ lo ≡ spanOf vs₂ lo)
-    → Replaced ws bs vs₃ cs₃ at 1 (frontOf m u (bareAt ws bs at) ∷ xs ++ (backOf m (bareAt ws bs at) ∷ [])) × Loose vs₃ (nodesOf ws + (1 + k)) (at + 1) (1 + k) 0
+    → Replaced ws bs vs₃ cs₃ at 1 (frontOf m u (bareAt ws bs at) ∷ xs ++ (backOf m (bareAt ws bs at) ∷ [])) × Loose vs₃ (n + (1 + k)) (at + 1) (1 + k) 0
 cut-parts ws bs us ds vs cs vs₂ cs₂ vs₃ cs₃ at n k m lo u xs le e c w rule mv f l b leaf g =
     let f′ : Filled us ds vs cs at (frontOf m u (bareAt ws bs at)) = rw (upper-there ws bs us ds at n k m lo le e c w mv) at (f .0) in
     let o = lower-then ws bs us ds at n k m lo le e c w mv vs cs (frontOf m u (bareAt ws bs at)) f′ vs₂ cs₂ xs l b in
     let g′ : Filled vs₂ cs₂ vs₃ cs₃ lo (backOf m (bareAt ws bs at)) = rw o at (g .0) in (
       cut-around ws bs us ds at n k m lo le e c w mv vs cs (frontOf m u (bareAt ws bs at)) f′ vs₂ cs₂ xs l b vs₃ cs₃ (backOf m (bareAt ws bs at)) g′,
-      loose-at (ap (λ (x : ℕ). x + (1 + k)) e) refl
-          (cut-short ws bs us ds at n k m lo le e c w mv vs cs (frontOf m u (bareAt ws bs at)) f′ vs₂ cs₂ xs l b rule vs₃ cs₃ u refl g′ (f .1) (g .1) leaf),
+      cut-short ws bs us ds at n k m lo le e c w mv vs cs (frontOf m u (bareAt ws bs at)) f′ vs₂ cs₂ xs l b rule vs₃ cs₃ u refl g′ (f .1) (g .1) leaf,
     )
 
 -- A cut with the records xs behind the subtree of its lower part, which ends at `end`
-module _ (ws bs us ds us₂ ds₂ : List ℕ) (at n k m end : ℕ) (e : n ≡ nodesOf ws) (c : Cuts ws at m) (w : Within ws bs (n + 1 + k)) (less : at < end) (most : end ≤ n)
+module _ (ws bs us ds us₂ ds₂ : List ℕ) (at n k m end : ℕ) (e : n ≡ nodesOf ws) (c : Cuts ws at m) (w : Within ws bs (n + (1 + k))) (less : at < end) (most : end ≤ n)
     (mv : Moved ws bs us ds end n (1 + k)) (mv₂ : Moved us ds us₂ ds₂ at end 1) where
   pub high-upper : bareAt us₂ ds₂ at ≡ bareAt ws bs at
   high-upper = mv₂ .low at (omega arith) ∙ mv .low at (omega arith)
@@ -307,13 +295,13 @@ module _ (ws bs us ds us₂ ds₂ : List ℕ) (at n k m end : ℕ) (e : n ≡ no
           leaf
 
 -- as the code leaves them, where the subtree has so many nodes
-pub behind-parts : (ws bs us ds us₂ ds₂ vs cs vs₂ cs₂ vs₃ cs₃ : List ℕ) (at n k m span : ℕ) (xs : List Bare) → n ≡ nodesOf ws → Cuts ws at m → Within ws bs (n + 1 + k)
+pub behind-parts : (ws bs us ds us₂ ds₂ vs cs vs₂ cs₂ vs₃ cs₃ : List ℕ) (at n k m span : ℕ) (xs : List Bare) → n ≡ nodesOf ws → Cuts ws at m → Within ws bs (n + (1 + k))
     → 1 ≤ span → at + span ≤ n → PoolRule ws bs → span ≡ spanOf ws at → m < lenOf ws at → 1 ≤ k → Moved ws bs us ds (at + span) n (1 + k) → Moved us ds us₂ ds₂ at (at + span) 1
     → Filled us₂ ds₂ vs cs at (frontOf m none (bareAt us₂ ds₂ at)) × (spanOf vs at ≡ spanOf us₂ at)
     → Filled vs cs vs₂ cs₂ (at + 1) (backOf m (bareAt vs cs (at + 1))) × (spanOf vs₂ (at + 1) ≡ spanOf vs (at + 1))
     → length xs ≡ k → Built vs₂ cs₂ vs₃ cs₃ (at + span + 1) xs → Leafy vs₃ (at + span + 1) k (startOf ws at + m)
     → Replaced ws bs vs₃ cs₃ at span (frontOf m none (bareAt ws bs at) ∷ (backOf m (bareAt ws bs at) ∷ baresFrom ws bs (at + 1) (span - 1)) ++ xs)
-    × Loose vs₃ (nodesOf ws + (1 + k)) (at + 1) (1 + k) 0
+    × Loose vs₃ (n + (1 + k)) (at + 1) (1 + k) 0
 behind-parts ws bs us ds us₂ ds₂ vs cs vs₂ cs₂ vs₃ cs₃ at n k m span xs e c w one most rule sp cut some mv mv₂ f g l b leaf =
     let h : at < at + span = omega arith in
     let f′ : Filled us₂ ds₂ vs cs at (frontOf m none (bareAt ws bs at)) = rw (high-upper ws bs us ds us₂ ds₂ at n k m (at + span) e c w h most mv mv₂) at (f .0) in
@@ -323,41 +311,71 @@ behind-parts ws bs us ds us₂ ds₂ vs cs vs₂ cs₂ vs₃ cs₃ at n k m span
     let g′ : Filled vs cs vs₂ cs₂ (at + 1) (backOf m (bareAt ws bs at)) = rw o at (g .0) in (
       rw (p, q) at
           (cut-behind ws bs us ds us₂ ds₂ at n k m (at + span) e c w h most mv mv₂ vs cs (frontOf m none (bareAt ws bs at)) f′ vs₂ cs₂ (backOf m (bareAt ws bs at)) g′ vs₃ cs₃ xs l b),
-      loose-at (ap (λ (x : ℕ). x + (1 + k)) e) refl
-          (behind-short ws bs us ds us₂ ds₂ at n k m (at + span) e c w h most mv mv₂ vs cs (frontOf m none (bareAt ws bs at)) f′ vs₂ cs₂ (backOf m (bareAt ws bs at)) g′ vs₃ cs₃ xs l b
-          rule (ap (λ (x : ℕ). at + x) sp) cut some refl refl (f .1) (g .1) leaf),
+      behind-short ws bs us ds us₂ ds₂ at n k m (at + span) e c w h most mv mv₂ vs cs (frontOf m none (bareAt ws bs at)) f′ vs₂ cs₂ (backOf m (bareAt ws bs at)) g′ vs₃ cs₃ xs l b
+          rule (ap (λ (x : ℕ). at + x) sp) cut some refl refl (f .1) (g .1) leaf,
     )
 
--- The spans that a fork leaves short, as its contract counts them
-abbrev pub Short : (ws vs : List ℕ) (at : ℕ) (q : Key) → Type 0
-Short ws vs at q = Loose vs (nodesOf ws + (1 + leafNodes (length q))) (at + 1) (1 + leafNodes (length q)) 0
+-- A cut alone: its lower part stands in the next slot.
+pub cut-lower : {ws bs us ds vs : List ℕ} {at n m : ℕ} {x : Bare} → Grows ws bs n 1 → Cuts ws at m → Moved ws bs us ds at n 1 → Filled us ds vs ds at x → bareAt vs ds (at + 1) ≡ bareAt ws bs at
+cut-lower {ws} {bs} {us} {ds} {vs} {at} {n} {m} {x} g c mv f = lower-next ws bs us ds at n 0 m (at + 1) (omega arith) (g .nodes) c (g .within) mv vs ds x f
 
--- The same with the leaf of a key, for the start and the span that the code has read
-module _ (ws bs us ds : List ℕ) (at n k m start : ℕ) (q : Key) (v : ℕ) (st : start ≡ startOf ws at) (e : n ≡ nodesOf ws) (fork : Forks ws at m q) (w : Within ws bs (n + 1 + k))
-    (rule : PoolRule ws bs) (kn : k ≡ leafNodes (length q)) where
-  leaf-count : length (leafBares (startOf ws at + m) q v) ≡ k
-  leaf-count = leaf-length (startOf ws at + m) q v (fork .left) ∙ sym kn
+pub cut-two : {ws bs us ds vs vs₂ cs₂ : List ℕ} {at n m : ℕ} {u : Num} → Grows ws bs n 1 → Cuts ws at m → PoolRule ws bs → Moved ws bs us ds at n 1
+    → Filled us ds vs ds at (frontOf m u (bareAt us ds at)) × (spanOf vs at ≡ spanOf us at)
+    → Filled vs ds vs₂ cs₂ (at + 1) (backOf m (bareAt vs ds (at + 1))) × (spanOf vs₂ (at + 1) ≡ spanOf vs (at + 1))
+    → Replaced ws bs vs₂ cs₂ at 1 (frontOf m u (bareAt ws bs at) ∷ backOf m (bareAt ws bs at) ∷ []) × Loose vs₂ (n + 1) (at + 1) 1 0
+cut-two {ws} {bs} {us} {ds} {vs} {vs₂} {cs₂} {at} {n} {m} {u} g c rule mv f b =
+    cut-parts ws bs us ds vs ds vs ds vs₂ cs₂ at n 0 m (at + 1) u [] (omega arith) (g .nodes) c (g .within) rule mv f refl (built-none vs ds (at + 1)) (leafy-none vs (at + 1) (startOf ws at + m)) b
 
-  short-is : (vs : List ℕ) → Loose vs (nodesOf ws + (1 + k)) (at + 1) (1 + k) 0 → Short ws vs at q
-  short-is vs o = loose-at (ap (λ (x : ℕ). nodesOf ws + (1 + x)) kn) (ap (λ (x : ℕ). 1 + x) kn) o
+-- A fork: the k new slots are the lower part's, and those of the leaf for what is left of the key.
+module _ {ws bs : List ℕ} {at n k m start : ℕ} {q : Key} (v : ℕ) (g : Grows ws bs n k) (fork : Forks ws at m q) (kn : k ≡ 1 + leafNodes (length q)) (rule : PoolRule ws bs) (st : start ≡ startOf ws at) where
+  abbrev leaf : List Bare
+  leaf = leafBares (startOf ws at + m) q v
 
-  pub forked-before : (vs cs vs₂ cs₂ vs₃ cs₃ : List ℕ) → Moved ws bs us ds at n (1 + k) → Filled us ds vs cs at (frontOf m none (bareAt us ds at)) × (spanOf vs at ≡ spanOf us at)
+  leaf-count : length leaf ≡ leafNodes (length q)
+  leaf-count = leaf-length (startOf ws at + m) q v (fork .left)
+
+  all-within : Within ws bs (n + (1 + leafNodes (length q)))
+  all-within = rw kn at (g .within)
+
+  -- the lower part, where the leaf stands before it
+  pub before-lower : {us ds vs cs vs₂ cs₂ : List ℕ} {x : Bare} → Moved ws bs us ds at n k → Filled us ds vs cs at x → Built vs cs vs₂ cs₂ (at + 1) (leafBares (start + m) q v)
+      → bareAt vs₂ cs₂ (at + k) ≡ bareAt ws bs at
+  before-lower {us} {ds} {vs} {cs} {vs₂} {cs₂} {x} mv f b =
+      let b′ : Built vs cs vs₂ cs₂ (at + 1) leaf = rw st at b in
+      let mv′ : Moved ws bs us ds at n (1 + leafNodes (length q)) = rw kn at mv in
+      lower-then ws bs us ds at n (leafNodes (length q)) m (at + k) (omega arith) (g .nodes) (fork .cuts) all-within mv′ vs cs x f vs₂ cs₂ leaf leaf-count b′
+
+  pub forked-before : {us ds vs cs vs₂ cs₂ vs₃ cs₃ : List ℕ} → Moved ws bs us ds at n k → Filled us ds vs cs at (frontOf m none (bareAt us ds at)) × (spanOf vs at ≡ spanOf us at)
       → Built vs cs vs₂ cs₂ (at + 1) (leafBares (start + m) q v)
-      → Filled vs₂ cs₂ vs₃ cs₃ (at + 1 + k) (backOf m (bareAt vs₂ cs₂ (at + 1 + k))) × (spanOf vs₃ (at + 1 + k) ≡ spanOf vs₂ (at + 1 + k))
-      → Replaced ws bs vs₃ cs₃ at 1 (forkBares ws bs at m q v true) × Short ws vs₃ at q
-  forked-before vs cs vs₂ cs₂ vs₃ cs₃ mv f b g =
-      let b′ : Built vs cs vs₂ cs₂ (at + 1) (leafBares (startOf ws at + m) q v) = rw st at b in
-      let r = cut-parts ws bs us ds vs cs vs₂ cs₂ vs₃ cs₃ at n k m (at + 1 + k) none (leafBares (startOf ws at + m) q v) refl e (fork .cuts) w rule mv f leaf-count b′
-      (built-leafy vs cs vs₂ cs₂ (at + 1) (startOf ws at + m) q v k (fork .left) leaf-count b′) g in
-      (r .0, short-is vs₃ (r .1))
+      → Filled vs₂ cs₂ vs₃ cs₃ (at + k) (backOf m (bareAt vs₂ cs₂ (at + k))) × (spanOf vs₃ (at + k) ≡ spanOf vs₂ (at + k))
+      → Replaced ws bs vs₃ cs₃ at 1 (forkBares ws bs at m q v true) × Loose vs₃ (n + k) (at + 1) k 0
+  forked-before {us} {ds} {vs} {cs} {vs₂} {cs₂} {vs₃} {cs₃} mv f b l =
+      let b′ : Built vs cs vs₂ cs₂ (at + 1) leaf = rw st at b in
+      let mv′ : Moved ws bs us ds at n (1 + leafNodes (length q)) = rw kn at mv in
+      let r = cut-parts ws bs us ds vs cs vs₂ cs₂ vs₃ cs₃ at n (leafNodes (length q)) m (at + k) none leaf (omega arith) (g .nodes) (fork .cuts) all-within rule mv′ f leaf-count b′
+      (built-leafy vs cs vs₂ cs₂ (at + 1) (startOf ws at + m) q v (leafNodes (length q)) (fork .left) leaf-count b′) l in
+      (r .0, rw kn (r .1))
 
-  pub forked-behind : (us₂ ds₂ vs cs vs₂ cs₂ vs₃ cs₃ : List ℕ) (span : ℕ) → span ≡ spanOf ws at → 1 ≤ span → at + span ≤ n
-      → Moved ws bs us ds (at + span) n (1 + k) → Moved us ds us₂ ds₂ at (at + span) 1
+  -- the two parts, where the leaf comes behind the subtree
+  pub behind-upper : {us ds us₂ ds₂ : List ℕ} {span : ℕ} → span ≡ spanOf ws at → Moved ws bs us ds (at + span) n k → Moved us ds us₂ ds₂ at (at + span) 1 → bareAt us₂ ds₂ at ≡ bareAt ws bs at
+  behind-upper {us} {ds} {us₂} {ds₂} {span} sp mv mv₂ = mv₂ .low at (omega arith) ∙ mv .low at (omega (arith, fork .span))
+
+  pub behind-lower : {us ds us₂ ds₂ vs cs : List ℕ} {span : ℕ} {x : Bare} → span ≡ spanOf ws at → Moved ws bs us ds (at + span) n k → Moved us ds us₂ ds₂ at (at + span) 1
+      → Filled us₂ ds₂ vs cs at x → bareAt vs cs (at + 1) ≡ bareAt ws bs at
+  behind-lower {us} {ds} {us₂} {ds₂} {vs} {cs} {span} {x} sp mv mv₂ f =
+      let s = fork .span in
+      let i = fork .inside in
+      f .others (at + 1) (λ z. omega arith) (omega (arith, g .nodes, g .within .labels, mv .lenB, mv₂ .lenB)) ∙ mv₂ .moved at (omega arith) (omega arith) ∙ mv .low at (omega arith)
+
+  pub forked-behind : {us ds us₂ ds₂ vs cs vs₂ cs₂ vs₃ cs₃ : List ℕ} {span : ℕ} → span ≡ spanOf ws at → Moved ws bs us ds (at + span) n k → Moved us ds us₂ ds₂ at (at + span) 1
       → Filled us₂ ds₂ vs cs at (frontOf m none (bareAt us₂ ds₂ at)) × (spanOf vs at ≡ spanOf us₂ at)
       → Filled vs cs vs₂ cs₂ (at + 1) (backOf m (bareAt vs cs (at + 1))) × (spanOf vs₂ (at + 1) ≡ spanOf vs (at + 1))
-      → Built vs₂ cs₂ vs₃ cs₃ (at + span + 1) (leafBares (start + m) q v) → Replaced ws bs vs₃ cs₃ at (spanOf ws at) (forkBares ws bs at m q v false) × Short ws vs₃ at q
-  forked-behind us₂ ds₂ vs cs vs₂ cs₂ vs₃ cs₃ span sp some most mv mv₂ f g b =
-      let b′ : Built vs₂ cs₂ vs₃ cs₃ (at + span + 1) (leafBares (startOf ws at + m) q v) = rw st at b in
-      let r = behind-parts ws bs us ds us₂ ds₂ vs cs vs₂ cs₂ vs₃ cs₃ at n k m span (leafBares (startOf ws at + m) q v) e (fork .cuts) w some most rule sp (fork .less) (omega arith) mv mv₂ f g leaf-count b′
-      (built-leafy vs₂ cs₂ vs₃ cs₃ (at + span + 1) (startOf ws at + m) q v k (fork .left) leaf-count b′) in
-      (rw (← sp) (r .0), short-is vs₃ (r .1))
+      → Built vs₂ cs₂ vs₃ cs₃ (at + span + 1) (leafBares (start + m) q v)
+      → Replaced ws bs vs₃ cs₃ at (spanOf ws at) (forkBares ws bs at m q v false) × Loose vs₃ (n + k) (at + 1) k 0
+  forked-behind {us} {ds} {us₂} {ds₂} {vs} {cs} {vs₂} {cs₂} {vs₃} {cs₃} {span} sp mv mv₂ f l b =
+      let b′ : Built vs₂ cs₂ vs₃ cs₃ (at + span + 1) leaf = rw st at b in
+      let mv′ : Moved ws bs us ds (at + span) n (1 + leafNodes (length q)) = rw kn at mv in
+      let inside = fork .inside in
+      let r = behind-parts ws bs us ds us₂ ds₂ vs cs vs₂ cs₂ vs₃ cs₃ at n (leafNodes (length q)) m span leaf (g .nodes) (fork .cuts) all-within (omega (arith, fork .span)) (omega (arith, g .nodes)) rule sp
+      (fork .less) (omega arith) mv′ mv₂ f l leaf-count b′ (built-leafy vs₂ cs₂ vs₃ cs₃ (at + span + 1) (startOf ws at + m) q v (leafNodes (length q)) (fork .left) leaf-count b′) in
+      (rw (← sp) (r .0), rw kn (r .1))

@@ -19,7 +19,7 @@ use Rattle.label.proofs.Moves.{by-eq}
 use Rattle.pool.proofs.Runs.{run-length}
 use Rattle.pool.proofs.Spans.{covers-linked, covers-same, covers-to, rule-rests}
 use Rattle.search.specs.declared.Stop.{Stop}
-use Rattle.insert.specs.Splices.{leafNodes, KeyLeft, newNodes, leafBares, Replaced, forkBares, forkSide, forkWas, total, Placed, grown}
+use Rattle.insert.specs.Splices.{leafNodes, KeyLeft, newNodes, leafBares, Grows, Opens, Forks, Replaced, forkBares, forkSide, forkWas, total, Placed, grown}
 use Rattle.insert.proofs.Leaves.{run-one, leaf-length}
 use Rattle.insert.proofs.Spans.{Like, like}
 use Rattle.insert.proofs.Places.{upper-is}
@@ -31,9 +31,16 @@ left-at above len e h = subst (λ (x : Stop). KeyLeft x above len) e h
 pub new-at : {s s′ : Stop} (above len : ℕ) → s ≡ s′ → newNodes s above len ≡ newNodes s′ above len
 new-at above len e = ap (λ (x : Stop). newNodes x above len) e
 
-module _ (ws bs : List ℕ) (at was : ℕ) (xs : List Bare) (said : Told) (all : ℕ) (count : all ≡ total ws was xs) where
-  pub placed-grown : (us vs cs : List ℕ) → all ≤ length bs / 255 → Replaced ws bs us cs at was xs → Settled us vs all → Placed ws bs vs cs at was xs said said
-  placed-grown us vs cs h r s = grown us refl (omega arith) r (rw count at s)
+-- Of n slots in use and k new ones, `was` were there before in the place of xs.
+module _ {ws bs : List ℕ} {n k : ℕ} (g : Grows ws bs n k) {at was : ℕ} {xs : List Bare} (said : Told) (count : length xs ≡ was + k) where
+  pub placed-grown : {us vs cs : List ℕ} → Replaced ws bs us cs at was xs → Settled us vs (n + k) → Placed ws bs vs cs at was xs said said
+  placed-grown {us} {vs} {cs} r s =
+      let e : n + k ≡ total ws was xs = omega (arith, g .nodes) in
+      grown us refl (omega (arith, g .room)) r (rw e at s)
+
+pub leaf-placed : {ws bs us vs cs : List ℕ} {at n k s : ℕ} {q : Key} (v : ℕ) → Grows ws bs n k → Opens ws bs at s q → k ≡ leafNodes (length q)
+    → Replaced ws bs us cs at 0 (leafBares s q v) → Settled us vs (n + k) → Placed ws bs vs cs at 0 (leafBares s q v) (done []) (done [])
+leaf-placed {s = s} {q} v g o kn r d = placed-grown g (done []) (omega (arith, leaf-length s q v (o .left))) r d
 
 -- A fork adds the upper part and the leaf.
 pub fork-count : (ws bs : List ℕ) (at m : ℕ) (q : Key) (v : ℕ) (b : Bool) → 1 ≤ length q → 1 ≤ spanOf ws at
@@ -45,6 +52,12 @@ fork-count ws bs at m q v false h s =
     let l = leafBares (startOf ws at + m) q v in
     let ks = baresFrom ws bs (at + 1) (spanOf ws at - 1) in
     omega (arith, length-append (backOf m (bareAt ws bs at) ∷ ks) l, run-length (bareAt ws bs) (at + 1) (spanOf ws at - 1), leaf-length (startOf ws at + m) q v h)
+
+pub fork-placed : {ws bs us vs cs : List ℕ} {at n k m : ℕ} {q : Key} (v : ℕ) → Grows ws bs n k → Forks ws at m q → k ≡ 1 + leafNodes (length q)
+    → let b = forkSide ws bs at m q in
+    Replaced ws bs us cs at (forkWas ws at b) (forkBares ws bs at m q v b) → Settled us vs (n + k) → Placed ws bs vs cs at (forkWas ws at b) (forkBares ws bs at m q v b) (done []) (done [])
+fork-placed {ws} {bs} {at = at} {m = m} {q = q} v g f kn r d =
+    placed-grown g (done []) (omega (arith, fork-count ws bs at m q v (forkSide ws bs at m q) (f .left) (f .span))) r d
 
 -- a fork on the side that the bytes say
 pub fork-on : (ws bs vs cs : List ℕ) (at m : ℕ) (q : Key) (v : ℕ) (b r : Bool) → r ≡ forkSide ws bs at m q → r ≡ b

@@ -14,7 +14,7 @@ use Rattle.tree.specs.Told.{Told, refusal}
 use Rattle.search.specs.declared.Stop.{Stop}
 use Rattle.pool.specs.Layout.{nodesOf, startOf, lenOf, spanOf, labelOf}
 use Rattle.pool.specs.Pool.{slotsIn}
-use Rattle.pool.specs.Rule.{PoolRule}
+use Rattle.pool.specs.Rule.{Within, PoolRule}
 use Rattle.pool.specs.Splice.{Bare, bareAt, baresFrom, baresF, frontOf, backOf, Settled}
 
 -- The nodes of a new label of so many bytes: 255 are one node, 256 are two.
@@ -53,6 +53,13 @@ pub record Built (ws bs vs cs : List ℕ) (at : ℕ) (xs : List Bare) : Type 0 w
   pub low-span : (i : ℕ) → i < at → spanOf vs i ≡ spanOf ws i
   pub new-span : (i : ℕ) → at ≤ i → i < at + length xs → i + spanOf vs i ≡ at + length xs
   pub high-span : (i : ℕ) → at + length xs ≤ i → spanOf vs i ≡ spanOf ws i
+
+-- Of a pool n slots are in use, and there is room for k more.
+pub record Grows (ws bs : List ℕ) (n k : ℕ) : Type 0 where
+  pub nodes : n ≡ nodesOf ws
+  pub within : Within ws bs (n + k)
+  pub most : n + k ≤ 16384
+  pub room : n + k ≤ slotsIn bs
 
 -- A leaf for the bytes q can stand at slot `at`, under a path of `start` bytes: what stood there starts no deeper.
 pub record Opens (ws bs : List ℕ) (at start : ℕ) (q : Key) : Type 0 where

@@ -8,6 +8,7 @@ ghost use mathlib.Core.Option.{some};
 ghost use Prim.Native.Nat.{ℕ, _+_, _*_, _≤_, _<_};
 ghost use lib.ListN.{length};
 ghost use Rattle.tree.specs.Key.{keyMax};
+ghost use Rattle.tree.specs.Tree.{Tree};
 ghost use Rattle.tree.specs.Image.{numbersW};
 ghost use Rattle.tree.specs.Told.{done, insertedTold};
 ghost use Rattle.tree.specs.Calls.{insertCall};
@@ -17,8 +18,10 @@ ghost use Rattle.pool.specs.Layout.{nodesOf, lenOf, spanOf, numAt};
 ghost use Rattle.pool.specs.Rule.{Within, PoolRule};
 ghost use Rattle.pool.specs.Splice.{bareAt, frontOf, backOf};
 ghost use Rattle.pool.specs.Spans.{Loose};
-ghost use Rattle.insert.specs.Splices.{leafNodes, KeyLeft, newNodes, leafBares, Built, Opens, Cuts, Replaced, Forks, forkBares, forkSide, forkWas, Placed};
+ghost use Rattle.search.specs.Landing.{Lands};
+ghost use Rattle.insert.specs.Splices.{leafNodes, KeyLeft, newNodes, leafBares, Built, Grows, Opens, Cuts, Replaced, Forks, forkBares, forkSide, forkWas, Placed};
 use pool::splice::Stored;
+use search::Descent;
 use search::Stop;
 use tree::Inserted;
 use tree::RuleNo;
@@ -73,55 +76,25 @@ fn chain(labels: &mut [u8], words: &mut [u32], at: Slot, start: usize, rest: &[u
     chain(labels, words, Slot(next), start + 255, &rest[255..], number);
 }
 
-// Opens a gap at the slot, and builds a new leaf in it. Only the spans of its ancestors are short then.
-fn open_leaf(
-    labels: &mut [u8],
-    words: &mut [u32],
-    at: Slot,
-    start: usize,
-    rest: &[u8],
-    number: RuleNo,
-)
-    requires { ⌜ Within (now words) (now labels) (nodesOf (now words) + leafNodes (length (now rest))) × Opens (now words) (now labels) (at .0) start (now rest) ⌝ }
-    ensures { λ _. ⌜ Replaced (now (words .entry)) (now (labels .entry)) (now (words .exit)) (now (labels .exit)) (at .0) 0 (leafBares start (now (rest .entry)) (number .0)) × Loose (now (words .exit)) (nodesOf (now (words .entry)) + leafNodes (length (now (rest .entry)))) (at .0) (leafNodes (length (now (rest .entry)))) 0 ⌝ }
-{
-    let n = pool::nodes_in(words);
-    let k = chain_nodes(rest.len());
-    pool::splice::move_slots(labels, words, at, Slot(n), k);
-    chain(labels, words, at, start, rest, number);
-}
-
-// Cuts the label of the slot behind m bytes: the upper part gets the number, the lower part keeps what was there.
-// Counterpart: `split_at`.
-fn cut_label(labels: &mut [u8], words: &mut [u32], at: Slot, m: usize, number: RuleNo)
-    requires { ⌜ Within (now words) (now labels) (nodesOf (now words) + 1) × Cuts (now words) (at .0) m × PoolRule (now words) (now labels) ⌝ }
-    ensures { λ _. ⌜ Replaced (now (words .entry)) (now (labels .entry)) (now (words .exit)) (now (labels .exit)) (at .0) 1 (frontOf m (some (number .0)) (bareAt (now (words .entry)) (now (labels .entry)) (at .0)) ∷ backOf m (bareAt (now (words .entry)) (now (labels .entry)) (at .0)) ∷ []) × Loose (now (words .exit)) (nodesOf (now (words .entry)) + 1) (at .0 + 1) 1 0 ⌝ }
-{
-    let n = pool::nodes_in(words);
-    let lower = at.0 + 1;
-    pool::splice::move_slots(labels, words, at, Slot(n), 1);
-    pool::splice::keep_front(words, at, m, Stored::Number(number));
-    pool::splice::keep_back(labels, words, Slot(lower), m);
-}
-
-// Cuts the label of the slot behind m bytes, with a new leaf before the lower part.
+// Cuts the label of the slot behind m bytes, with a new leaf before the lower part. Of the n slots in use those behind move
+// up by k.
 fn fork_before(
     labels: &mut [u8],
     words: &mut [u32],
     at: Slot,
+    n: usize,
+    k: usize,
     m: usize,
     rest: &[u8],
     number: RuleNo,
 )
-    requires { ⌜ Within (now words) (now labels) (nodesOf (now words) + 1 + leafNodes (length (now rest))) × Forks (now words) (at .0) m (now rest) × PoolRule (now words) (now labels) ⌝ }
-    ensures { λ _. ⌜ Replaced (now (words .entry)) (now (labels .entry)) (now (words .exit)) (now (labels .exit)) (at .0) 1 (forkBares (now (words .entry)) (now (labels .entry)) (at .0) m (now (rest .entry)) (number .0) true) × Loose (now (words .exit)) (nodesOf (now (words .entry)) + (1 + leafNodes (length (now (rest .entry))))) (at .0 + 1) (1 + leafNodes (length (now (rest .entry)))) 0 ⌝ }
+    requires { ⌜ Grows (now words) (now labels) n k × Forks (now words) (at .0) m (now rest) × (k ≡ 1 + leafNodes (length (now rest))) × PoolRule (now words) (now labels) ⌝ }
+    ensures { λ _. ⌜ Replaced (now (words .entry)) (now (labels .entry)) (now (words .exit)) (now (labels .exit)) (at .0) 1 (forkBares (now (words .entry)) (now (labels .entry)) (at .0) m (now (rest .entry)) (number .0) true) × Loose (now (words .exit)) (n + k) (at .0 + 1) k 0 ⌝ }
 {
-    let n = pool::nodes_in(words);
-    let k = chain_nodes(rest.len());
     let start = pool::start_at(words, at) + m;
     let next = at.0 + 1;
-    let lower = next + k;
-    pool::splice::move_slots(labels, words, at, Slot(n), 1 + k);
+    let lower = at.0 + k;
+    pool::splice::move_slots(labels, words, at, Slot(n), k);
     pool::splice::keep_front(words, at, m, Stored::Nothing);
     chain(labels, words, Slot(next), start, rest, number);
     pool::splice::keep_back(labels, words, Slot(lower), m);
@@ -132,19 +105,19 @@ fn fork_behind(
     labels: &mut [u8],
     words: &mut [u32],
     at: Slot,
+    n: usize,
+    k: usize,
     m: usize,
     rest: &[u8],
     number: RuleNo,
 )
-    requires { ⌜ Within (now words) (now labels) (nodesOf (now words) + 1 + leafNodes (length (now rest))) × Forks (now words) (at .0) m (now rest) × PoolRule (now words) (now labels) ⌝ }
-    ensures { λ _. ⌜ Replaced (now (words .entry)) (now (labels .entry)) (now (words .exit)) (now (labels .exit)) (at .0) (spanOf (now (words .entry)) (at .0)) (forkBares (now (words .entry)) (now (labels .entry)) (at .0) m (now (rest .entry)) (number .0) false) × Loose (now (words .exit)) (nodesOf (now (words .entry)) + (1 + leafNodes (length (now (rest .entry))))) (at .0 + 1) (1 + leafNodes (length (now (rest .entry)))) 0 ⌝ }
+    requires { ⌜ Grows (now words) (now labels) n k × Forks (now words) (at .0) m (now rest) × (k ≡ 1 + leafNodes (length (now rest))) × PoolRule (now words) (now labels) ⌝ }
+    ensures { λ _. ⌜ Replaced (now (words .entry)) (now (labels .entry)) (now (words .exit)) (now (labels .exit)) (at .0) (spanOf (now (words .entry)) (at .0)) (forkBares (now (words .entry)) (now (labels .entry)) (at .0) m (now (rest .entry)) (number .0) false) × Loose (now (words .exit)) (n + k) (at .0 + 1) k 0 ⌝ }
 {
-    let n = pool::nodes_in(words);
-    let k = chain_nodes(rest.len());
     let start = pool::start_at(words, at) + m;
     let lower = at.0 + 1;
     let end = at.0 + pool::span_at(words, at);
-    pool::splice::move_slots(labels, words, Slot(end), Slot(n), 1 + k);
+    pool::splice::move_slots(labels, words, Slot(end), Slot(n), k);
     pool::splice::move_slots(labels, words, at, Slot(end), 1);
     pool::splice::keep_front(words, at, m, Stored::Nothing);
     pool::splice::keep_back(labels, words, Slot(lower), m);
@@ -163,15 +136,24 @@ fn byte_below(labels: &[u8], words: &[u32], at: Slot, m: usize, rest: &[u8]) -> 
 }
 
 // Cuts the label of the slot behind m bytes, with a new leaf beside the lower part, in the order of their first bytes.
-fn fork_label(labels: &mut [u8], words: &mut [u32], at: Slot, m: usize, rest: &[u8], number: RuleNo)
-    requires { ⌜ Within (now words) (now labels) (nodesOf (now words) + 1 + leafNodes (length (now rest))) × Forks (now words) (at .0) m (now rest) × PoolRule (now words) (now labels) ⌝ }
-    ensures { λ _. ⌜ Replaced (now (words .entry)) (now (labels .entry)) (now (words .exit)) (now (labels .exit)) (at .0) (forkWas (now (words .entry)) (at .0) (forkSide (now (words .entry)) (now (labels .entry)) (at .0) m (now (rest .entry)))) (forkBares (now (words .entry)) (now (labels .entry)) (at .0) m (now (rest .entry)) (number .0) (forkSide (now (words .entry)) (now (labels .entry)) (at .0) m (now (rest .entry)))) × Loose (now (words .exit)) (nodesOf (now (words .entry)) + (1 + leafNodes (length (now (rest .entry))))) (at .0 + 1) (1 + leafNodes (length (now (rest .entry)))) 0 ⌝ }
+fn fork_label(
+    labels: &mut [u8],
+    words: &mut [u32],
+    at: Slot,
+    n: usize,
+    k: usize,
+    m: usize,
+    rest: &[u8],
+    number: RuleNo,
+)
+    requires { ⌜ Grows (now words) (now labels) n k × Forks (now words) (at .0) m (now rest) × (k ≡ 1 + leafNodes (length (now rest))) × PoolRule (now words) (now labels) ⌝ }
+    ensures { λ _. ⌜ Replaced (now (words .entry)) (now (labels .entry)) (now (words .exit)) (now (labels .exit)) (at .0) (forkWas (now (words .entry)) (at .0) (forkSide (now (words .entry)) (now (labels .entry)) (at .0) m (now (rest .entry)))) (forkBares (now (words .entry)) (now (labels .entry)) (at .0) m (now (rest .entry)) (number .0) (forkSide (now (words .entry)) (now (labels .entry)) (at .0) m (now (rest .entry)))) × Loose (now (words .exit)) (n + k) (at .0 + 1) k 0 ⌝ }
 {
     if byte_below(labels, words, at, m, rest) {
-        fork_before(labels, words, at, m, rest, number);
+        fork_before(labels, words, at, n, k, m, rest, number);
         return;
     }
-    fork_behind(labels, words, at, m, rest, number);
+    fork_behind(labels, words, at, n, k, m, rest, number);
 }
 
 // The key ends at the slot: its number is set, and the old one given back. No span changes.
@@ -188,55 +170,95 @@ fn set_number(words: &mut [u32], at: Slot, number: RuleNo) -> Inserted
     }
 }
 
-// No node begins with the key's next byte: a new leaf stands at the slot, for which there is room.
+// No node begins with the key's next byte: a new leaf of k nodes stands at the slot. Of the n slots in use those behind move
+// up, the leaf is built in the gap, and the spans of its ancestors grow.
 fn add_leaf(
     labels: &mut [u8],
     words: &mut [u32],
     at: Slot,
+    n: usize,
+    k: usize,
     start: usize,
     rest: &[u8],
     number: RuleNo,
 ) -> Inserted
-    requires { ⌜ Opens (now words) (now labels) (at .0) start (now rest) × (nodesOf (now words) + leafNodes (length (now rest)) ≤ slotsIn (now labels)) ⌝ }
+    requires { ⌜ Grows (now words) (now labels) n k × Opens (now words) (now labels) (at .0) start (now rest) × (k ≡ leafNodes (length (now rest))) ⌝ }
     ensures { λ r. ⌜ Placed (now (words .entry)) (now (labels .entry)) (now (words .exit)) (now (labels .exit)) (at .0) 0 (leafBares start (now (rest .entry)) (number .0)) (done []) (insertedTold r) ⌝ }
 {
-    let n = pool::nodes_in(words);
-    let k = chain_nodes(rest.len());
-    open_leaf(labels, words, at, start, rest, number);
+    pool::splice::move_slots(labels, words, at, Slot(n), k);
+    chain(labels, words, at, start, rest, number);
     pool::splice::settle_at(words, n + k, at, k);
     Inserted::New
 }
 
-// The key ends inside the slot's label, which is cut there. There is room.
-fn add_cut(labels: &mut [u8], words: &mut [u32], at: Slot, m: usize, number: RuleNo) -> Inserted
-    requires { ⌜ PoolRule (now words) (now labels) × Cuts (now words) (at .0) m × (nodesOf (now words) + 1 ≤ slotsIn (now labels)) ⌝ }
+// The key ends inside the slot's label, which is cut there, behind m bytes: the upper part gets the number, the lower part
+// keeps what was there. Counterpart: `split_at`.
+fn add_cut(
+    labels: &mut [u8],
+    words: &mut [u32],
+    at: Slot,
+    n: usize,
+    m: usize,
+    number: RuleNo,
+) -> Inserted
+    requires { ⌜ Grows (now words) (now labels) n 1 × Cuts (now words) (at .0) m × PoolRule (now words) (now labels) ⌝ }
     ensures { λ r. ⌜ Placed (now (words .entry)) (now (labels .entry)) (now (words .exit)) (now (labels .exit)) (at .0) 1 (frontOf m (some (number .0)) (bareAt (now (words .entry)) (now (labels .entry)) (at .0)) ∷ backOf m (bareAt (now (words .entry)) (now (labels .entry)) (at .0)) ∷ []) (done []) (insertedTold r) ⌝ }
 {
-    let n = pool::nodes_in(words);
     let lower = at.0 + 1;
-    cut_label(labels, words, at, m, number);
+    pool::splice::move_slots(labels, words, at, Slot(n), 1);
+    pool::splice::keep_front(words, at, m, Stored::Number(number));
+    pool::splice::keep_back(labels, words, Slot(lower), m);
     pool::splice::settle_at(words, n + 1, Slot(lower), 1);
     Inserted::New
 }
 
-// The key forks off inside the slot's label. There is room.
+// The key forks off inside the slot's label, behind m bytes: the cut and a new leaf are k nodes.
 fn add_fork(
     labels: &mut [u8],
     words: &mut [u32],
     at: Slot,
+    n: usize,
+    k: usize,
     m: usize,
     rest: &[u8],
     number: RuleNo,
 ) -> Inserted
-    requires { ⌜ PoolRule (now words) (now labels) × Forks (now words) (at .0) m (now rest) × (nodesOf (now words) + (1 + leafNodes (length (now rest))) ≤ slotsIn (now labels)) ⌝ }
+    requires { ⌜ Grows (now words) (now labels) n k × Forks (now words) (at .0) m (now rest) × (k ≡ 1 + leafNodes (length (now rest))) × PoolRule (now words) (now labels) ⌝ }
     ensures { λ r. ⌜ Placed (now (words .entry)) (now (labels .entry)) (now (words .exit)) (now (labels .exit)) (at .0) (forkWas (now (words .entry)) (at .0) (forkSide (now (words .entry)) (now (labels .entry)) (at .0) m (now (rest .entry)))) (forkBares (now (words .entry)) (now (labels .entry)) (at .0) m (now (rest .entry)) (number .0) (forkSide (now (words .entry)) (now (labels .entry)) (at .0) m (now (rest .entry)))) (done []) (insertedTold r) ⌝ }
 {
-    let n = pool::nodes_in(words);
-    let k = 1 + chain_nodes(rest.len());
     let below = at.0 + 1;
-    fork_label(labels, words, at, m, rest, number);
+    fork_label(labels, words, at, n, k, m, rest, number);
     pool::splice::settle_at(words, n + k, Slot(below), k);
     Inserted::New
+}
+
+// Stores the number where the search for the key has ended. Of the pool n slots are in use, and there is room for the k new
+// ones.
+fn place(
+    labels: &mut [u8],
+    words: &mut [u32],
+    d: Descent,
+    n: usize,
+    k: usize,
+    key: &[u8],
+    number: RuleNo,
+) -> Inserted
+    requires { ⌜ PoolRule (now words) (now labels) × (length (now key) ≤ keyMax) × ((t : Tree) → poolTree (now words) (now labels) ≡ some t → Lands t (now key) d) × Grows (now words) (now labels) n k × (k ≡ newNodes (d .stop) (d .above) (length (now key))) ⌝ }
+    ensures { λ r. ⌜ Meets (insertCall (poolTree (now (words .entry)) (now (labels .entry))) (slotsIn (now (labels .entry))) (now (key .entry)) (number .0)) (insertedTold r) (now (words .entry)) (now (labels .entry)) (now (words .exit)) (now (labels .exit)) ⌝ }
+{
+    let at = d.at;
+    let above = d.above;
+    let stop = d.stop;
+    match stop {
+        Stop::Root => set_number(words, at, number),
+        Stop::Gap => add_leaf(labels, words, at, n, k, above, &key[above..], number),
+        Stop::Same => set_number(words, at, number),
+        Stop::Inside(m) => add_cut(labels, words, at, n, m, number),
+        Stop::Fork(m) => {
+            let from = above + m;
+            add_fork(labels, words, at, n, k, m, &key[from..], number)
+        }
+    }
 }
 
 // `insert` in a pool that has been tested, of a key that is not too long. The key is looked up first, so that setting a
@@ -246,7 +268,6 @@ fn insert_in(labels: &mut [u8], words: &mut [u32], key: &[u8], number: RuleNo) -
     ensures { λ r. ⌜ Meets (insertCall (poolTree (now (words .entry)) (now (labels .entry))) (slotsIn (now (labels .entry))) (now (key .entry)) (number .0)) (insertedTold r) (now (words .entry)) (now (labels .entry)) (now (words .exit)) (now (labels .exit)) ⌝ }
 {
     let d = search::descend(labels, words, key);
-    let at = d.at;
     let above = d.above;
     let stop = d.stop;
     let n = pool::nodes_in(words);
@@ -254,16 +275,7 @@ fn insert_in(labels: &mut [u8], words: &mut [u32], key: &[u8], number: RuleNo) -
     if n + k > labels.len() / 255 {
         return Inserted::NoRoom;
     }
-    match stop {
-        Stop::Root => set_number(words, at, number),
-        Stop::Gap => add_leaf(labels, words, at, above, &key[above..], number),
-        Stop::Same => set_number(words, at, number),
-        Stop::Inside(m) => add_cut(labels, words, at, m, number),
-        Stop::Fork(m) => {
-            let from = above + m;
-            add_fork(labels, words, at, m, &key[from..], number)
-        }
-    }
+    place(labels, words, d, n, k, key, number)
 }
 
 // Stores the number at the key, and gives the old one, if any. Counterpart: `insert`.

@@ -1,87 +1,87 @@
 -- `insert::fork_before` meets its contract. Assumes nothing.
-use mathlib.Core.Path.{refl, sym, _∙_}
-use native.Mathlib.Omega.{arith}
-use Rattle.insert.specs.Splices.{leafBares}
-use Rattle.insert.proofs.Leaves.{leaf-length}
-use Rattle.insert.proofs.Places.{cut-same, upper-there, lower-then, forked-before}
-use borrow.Author.Needs.{needs}
+use mathlib.Core.Path.{_∙_}
+use Rattle.insert.proofs.Asks.{unchanged, then, when-moved, when-filled, when-built, slot-fits, has-words, here, builds, cut-within, cut-moves, start-fits, keeps-front, keeps-back, upper-below, leaf-next, next-within, lower-within, lower-most, leaf-deep}
+use Rattle.insert.proofs.Places.{before-lower, forked-before}
 use Rattle.insert.proofs.fork_before.Statement.{statement}
 use Rattle.insert.proofs.fork_before.Tie as tie
 
-nodes-in-requires : tie.Need-nodes-in-requires
-nodes-in-requires c κs = search needs
-
-chain-nodes-requires : tie.Need-chain-nodes-requires
-chain-nodes-requires c κs = search needs
-
 start-at-requires : tie.Need-start-at-requires
-start-at-requires c κs = search needs
+start-at-requires c κs = let p = c .before .before .before .before .pre in has-words (p .0) (unchanged _ _) _ (cut-within (p .0) (p .1 .cuts))
 
 add-start : tie.Need-add-start
-add-start c = search needs
+add-start c = let p = c .before .before .before .before .before .pre in start-fits (p .0) (p .1 .cuts) _ (c .start-at .ensures .1)
 
 add-next : tie.Need-add-next
-add-next c = search needs
+add-next c = let p = c .before .before .before .before .before .before .pre in slot-fits (p .0) _ (next-within (p .0) (p .1) (p .2))
 
 add-lower : tie.Need-add-lower
-add-lower c = search needs
-
-add-move-slots : tie.Need-add-move-slots
-add-move-slots c = search needs
+add-lower c = let p = c .before .before .before .before .before .before .before .pre in slot-fits (p .0) _ (lower-most (p .0) (p .1) (p .2))
 
 move-slots-requires : tie.Need-move-slots-requires
-move-slots-requires c κs = search needs
+move-slots-requires c κs = let p = c .before .before .before .before .before .before .before .before .before .pre in cut-moves (p .0) (p .1 .cuts)
 
 keep-front-requires : tie.Need-keep-front-requires
 keep-front-requires c κs =
-    let s = c .before .before .before .before .before .before .before .before .before .before .before .before .before .before .before .before .before in
-    let p = s .pre in
-    let n = c .before .before .before .before .before .before .before .before .before .before .before .before .nodes-in .ensures in
-    let k = c .before .before .before .before .before .before .before .before .before .before .before .chain-nodes .ensures in
-    let u = cut-same _ _ _ _ _ _ _ (p .1 .cuts) (upper-there _ _ _ _ _ _ _ _ _ refl (n .0) (p .1 .cuts) (record { words = omega arith; labels = omega arith }) (c .before .before .before .before .before .move-slots .ensures)) in
-    omega arith
+    let moved = c .before .before .before .before .before in
+    let m = moved .move-slots .ensures in
+    let p = moved .before .before .before .before .before .before .before .before .before .before .pre in
+    keeps-front (p .0) (p .1 .cuts) (when-moved m) (m .low _ (upper-below (p .0) (p .1) (p .2))) (cut-within (p .0) (p .1 .cuts))
 
 chain-requires : tie.Need-chain-requires
-chain-requires c κs = search needs
+chain-requires c κs =
+    let cut = c .before .before .before .before in
+    let moved = cut .before .before .before .before .before .before in
+    let m = when-moved (moved .move-slots .ensures) in
+    let read = moved .before .before .before .before .before in
+    let s = read .before .before .before .before .before in
+    let p = s .pre in
+    let f = here (p .0) m (cut-within (p .0) (p .1 .cuts)) (cut .keep-front .ensures .0) in
+    builds (p .0) (then (when-filled f) m) _ _ (s .args .rest .now) (leaf-next (p .0) (p .1) (p .2)) (p .1 .left) (leaf-deep (p .0) (p .1) (p .2) _ (read .start-at .ensures .0))
 
 keep-back-requires : tie.Need-keep-back-requires
 keep-back-requires c κs =
-    let s = c .before .before .before .before .before .before .before .before .before .before .before .before .before .before .before .before .before .before .before .before .before .before .before .before .before .before .before .before .before in
+    let built = c .before .before .before .before .before .before in
+    let b = built .chain .ensures in
+    let cut = built .before .before .before .before .before in
+    let moved = cut .before .before .before .before .before .before in
+    let m = moved .move-slots .ensures in
+    let read = moved .before .before .before .before .before in
+    let s = read .before .before .before .before .before in
     let p = s .pre in
-    let n = c .before .before .before .before .before .before .before .before .before .before .before .before .before .before .before .before .before .before .before .before .before .before .before .before .nodes-in .ensures in
-    let k = c .before .before .before .before .before .before .before .before .before .before .before .before .before .before .before .before .before .before .before .before .before .before .before .chain-nodes .ensures in
-    let m = c .before .before .before .before .before .before .before .before .before .before .before .before .before .before .before .before .before .move-slots .ensures in
-    let b = c .before .before .before .before .before .before .chain .ensures in
-    let u = cut-same _ _ _ _ _ _ _ (p .1 .cuts) (lower-then _ _ _ _ _ _ _ _ _ refl (n .0) (p .1 .cuts) (record { words = omega arith; labels = omega arith }) m _ _ _ (c .before .before .before .before .before .before .before .before .before .before .before .keep-front .ensures .0 _ (omega (arith, m .lenB))) _ _ _ (leaf-length _ (s .args .rest .now) (s .args .number .0) (omega arith) ∙ sym k) b) in
-    omega arith
+    let f = here (p .0) (when-moved m) (cut-within (p .0) (p .1 .cuts)) (cut .keep-front .ensures .0) in
+    keeps-back (p .0) (p .1 .cuts) (then (when-built b) (then (when-filled f) (when-moved m))) (before-lower (s .args .number .0) (p .0) (p .1) (p .2) (p .3) (read .start-at .ensures .0) m f b) (lower-within (p .0) (p .1) (p .2))
 
 same-length : tie.Need-same-length
-same-length c = search needs
+same-length c = c .before .before .before .before .keep-back .ensures .0 .lenB ∙ c .before .before .before .before .before .before .before .before .before .before .before .chain .ensures .lenB ∙ c .before .before .before .before .before .before .before .before .before .before .before .before .before .before .before .before .before .before .before .before .before .before .move-slots .ensures .lenB
 
 same-length-2 : tie.Need-same-length-2
-same-length-2 c = search needs
+same-length-2 c =
+    let cut = c .before .before .before .before .before .before .before .before .before .before .before .before .before .before .before .before in
+    let m = cut .before .before .before .before .before .before .move-slots .ensures in
+    let p = cut .before .before .before .before .before .before .before .before .before .before .before .before .before .before .before .before .pre in
+    c .before .before .before .before .keep-back .ensures .0 .lenW ∙ c .before .before .before .before .before .before .before .before .before .before .before .chain .ensures .lenW ∙ here (p .0) (when-moved m) (cut-within (p .0) (p .1 .cuts)) (cut .keep-front .ensures .0) .lenW ∙ m .lenW
 
 returns : tie.Need-returns
 returns c =
-    let s = c .before .before .before .before .before .before .before .before .before .before .before .before .before .before .before .before .before .before .before .before .before .before .before .before .before .before .before .before .before .before .before .before .before .before in
+    let parted = c .before .before .before .before in
+    let built = parted .before .before .before .before .before .before .before in
+    let cut = built .before .before .before .before .before in
+    let moved = cut .before .before .before .before .before .before in
+    let m = moved .move-slots .ensures in
+    let read = moved .before .before .before .before .before in
+    let s = read .before .before .before .before .before in
     let p = s .pre in
-    let n = c .before .before .before .before .before .before .before .before .before .before .before .before .before .before .before .before .before .before .before .before .before .before .before .before .before .before .before .before .before .nodes-in .ensures in
-    let k = c .before .before .before .before .before .before .before .before .before .before .before .before .before .before .before .before .before .before .before .before .before .before .before .before .before .before .before .before .chain-nodes .ensures in
-    let m = c .before .before .before .before .before .before .before .before .before .before .before .before .before .before .before .before .before .before .before .before .before .before .move-slots .ensures in
-    forked-before _ _ _ _ _ _ _ _ _ (s .args .rest .now) (s .args .number .0) (c .before .before .before .before .before .before .before .before .before .before .before .before .before .before .before .before .before .before .before .before .before .before .before .before .before .before .start-at .ensures .0) (n .0) (p .1) (record { words = omega arith; labels = omega arith }) (p .2) k
-    _ _ _ _ _ _ m (c .before .before .before .before .before .before .before .before .before .before .before .before .before .before .before .before .keep-front .ensures .0 _ (omega (arith, m .lenB)), c .before .before .before .before .before .before .before .before .before .before .before .before .before .before .before .before .keep-front .ensures .1) (c .before .before .before .before .before .before .before .before .before .before .before .chain .ensures) (c .before .before .before .before .keep-back .ensures)
+    let f = here (p .0) (when-moved m) (cut-within (p .0) (p .1 .cuts)) (cut .keep-front .ensures .0) in
+    forked-before (s .args .number .0) (p .0) (p .1) (p .2) (p .3) (read .start-at .ensures .0) m (f, cut .keep-front .ensures .1) (built .chain .ensures) (parted .keep-back .ensures)
 
 pub fork-before-spec : {M : Type 1} → statement M
 fork-before-spec =
     tie.close
     (tie.spec
-    nodes-in-requires
-    chain-nodes-requires
     start-at-requires
     add-start
     add-next
     add-lower
-    add-move-slots
     move-slots-requires
     keep-front-requires
     chain-requires

@@ -1,123 +1,123 @@
 -- `insert::fork_behind` meets its contract. Assumes nothing.
-use mathlib.Core.Path.{refl, sym, _∙_}
-use native.Mathlib.Omega.{arith}
-use Rattle.insert.proofs.Leaves.{leaf-length}
-use Rattle.insert.proofs.Places.{cut-same, high-upper, high-lower, forked-behind}
-use borrow.Author.Needs.{needs}
+use mathlib.Core.Path.{_∙_}
+use Rattle.insert.proofs.Asks.{unchanged, then, when-moved, when-filled, slot-fits, has-words, here, moves, moves-all, builds, cut-within, start-fits, keeps-front, keeps-back, next-within, next-below, leaf-deep, end-in, at-most, end-next, end-within, leaf-last}
+use Rattle.insert.proofs.Places.{behind-upper, behind-lower, forked-behind}
 use Rattle.insert.proofs.fork_behind.Statement.{statement}
 use Rattle.insert.proofs.fork_behind.Tie as tie
 
-nodes-in-requires : tie.Need-nodes-in-requires
-nodes-in-requires c κs = search needs
-
-chain-nodes-requires : tie.Need-chain-nodes-requires
-chain-nodes-requires c κs = search needs
-
 start-at-requires : tie.Need-start-at-requires
-start-at-requires c κs = search needs
+start-at-requires c κs = let p = c .before .before .before .before .pre in has-words (p .0) (unchanged _ _) _ (cut-within (p .0) (p .1 .cuts))
 
 add-start : tie.Need-add-start
-add-start c = search needs
+add-start c = let p = c .before .before .before .before .before .pre in start-fits (p .0) (p .1 .cuts) _ (c .start-at .ensures .1)
 
 add-lower : tie.Need-add-lower
-add-lower c = search needs
+add-lower c = let p = c .before .before .before .before .before .before .pre in slot-fits (p .0) _ (next-within (p .0) (p .1) (p .2))
 
 span-at-requires : tie.Need-span-at-requires
-span-at-requires c κs = search needs
+span-at-requires c κs = let p = c .before .before .before .before .before .before .before .pre in has-words (p .0) (unchanged _ _) _ (cut-within (p .0) (p .1 .cuts))
 
 add-end : tie.Need-add-end
-add-end c = search needs
-
-add-move-slots : tie.Need-add-move-slots
-add-move-slots c = search needs
+add-end c = let p = c .before .before .before .before .before .before .before .before .before .pre in slot-fits (p .0) _ (end-within (p .0) (p .1) (p .2) _ (c .before .span-at .ensures .0))
 
 move-slots-requires : tie.Need-move-slots-requires
-move-slots-requires c κs = search needs
+move-slots-requires c κs = let p = c .before .before .before .before .before .before .before .before .before .before .before .pre in moves-all (p .0) (end-in (p .0) (p .1) (p .2) _ (c .before .before .before .span-at .ensures .0))
 
 move-slots-requires-2 : tie.Need-move-slots-requires-2
-move-slots-requires-2 c κs = search needs
+move-slots-requires-2 c κs =
+    let moved = c .before .before .before .before .before .before in
+    let span = moved .before .before .before .before in
+    let e = span .span-at .ensures .0 in
+    let p = span .before .before .before .before .before .before .before .before .pre in
+    moves (p .0) (when-moved (moved .move-slots .ensures)) (at-most (p .0) (p .1) (p .2) _ e) (end-next (p .0) (p .1) (p .2) _ e)
 
 keep-front-requires : tie.Need-keep-front-requires
 keep-front-requires c κs =
-    let s = c .before .before .before .before .before .before .before .before .before .before .before .before .before .before .before .before .before .before .before .before .before .before .before .before .before .before .before in
+    let next = c .before .before .before .before .before in
+    let m₂ = next .move-slots2 .ensures in
+    let moved = next .before .before .before .before .before .before .before in
+    let m = moved .move-slots .ensures in
+    let span = moved .before .before .before .before in
+    let read = span .before .before .before in
+    let s = read .before .before .before .before .before in
     let p = s .pre in
-    let n = c .before .before .before .before .before .before .before .before .before .before .before .before .before .before .before .before .before .before .before .before .before .before .nodes-in .ensures in
-    let k = c .before .before .before .before .before .before .before .before .before .before .before .before .before .before .before .before .before .before .before .before .before .chain-nodes .ensures in
-    let t = c .before .before .before .before .before .before .before .before .before .before .before .before .before .before .before .before .span-at .ensures in
-    let u = cut-same _ _ _ _ _ _ _ (p .1 .cuts) (high-upper _ _ _ _ _ _ _ _ _ _ _ (n .0) (p .1 .cuts) (record { words = omega arith; labels = omega arith }) (omega arith) (omega arith) (c .before .before .before .before .before .before .before .before .before .before .before .before .move-slots .ensures) (c .before .before .before .before .before .move-slots2 .ensures)) in
-    omega arith
+    keeps-front (p .0) (p .1 .cuts) (then (when-moved m₂) (when-moved m)) (behind-upper (s .args .number .0) (p .0) (p .1) (p .2) (p .3) (read .start-at .ensures .0) (span .span-at .ensures .0) m m₂) (cut-within (p .0) (p .1 .cuts))
 
 keep-back-requires : tie.Need-keep-back-requires
 keep-back-requires c κs =
-    let s = c .before .before .before .before .before .before .before .before .before .before .before .before .before .before .before .before .before .before .before .before .before .before .before .before .before .before .before .before .before .before .before .before in
+    let cut = c .before .before .before .before in
+    let next = cut .before .before .before .before .before .before in
+    let m₂ = next .move-slots2 .ensures in
+    let moved = next .before .before .before .before .before .before .before in
+    let m = moved .move-slots .ensures in
+    let span = moved .before .before .before .before in
+    let read = span .before .before .before in
+    let s = read .before .before .before .before .before in
     let p = s .pre in
-    let n = c .before .before .before .before .before .before .before .before .before .before .before .before .before .before .before .before .before .before .before .before .before .before .before .before .before .before .before .nodes-in .ensures in
-    let k = c .before .before .before .before .before .before .before .before .before .before .before .before .before .before .before .before .before .before .before .before .before .before .before .before .before .before .chain-nodes .ensures in
-    let t = c .before .before .before .before .before .before .before .before .before .before .before .before .before .before .before .before .before .before .before .before .before .span-at .ensures in
-    let m = c .before .before .before .before .before .before .before .before .before .before .before .before .before .before .before .before .before .move-slots .ensures in
-    let m₂ = c .before .before .before .before .before .before .before .before .before .before .move-slots2 .ensures in
-    let u = cut-same _ _ _ _ _ _ _ (p .1 .cuts) (high-lower _ _ _ _ _ _ _ _ _ _ _ (n .0) (p .1 .cuts) (record { words = omega arith; labels = omega arith }) (omega arith) (omega arith) m m₂ _ _ _ (c .before .before .before .before .keep-front .ensures .0 _ (omega (arith, m .lenB, m₂ .lenB)))) in
-    omega arith
+    let up = then (when-moved m₂) (when-moved m) in
+    let f = here (p .0) up (cut-within (p .0) (p .1 .cuts)) (cut .keep-front .ensures .0) in
+    keeps-back (p .0) (p .1 .cuts) (then (when-filled f) up) (behind-lower (s .args .number .0) (p .0) (p .1) (p .2) (p .3) (read .start-at .ensures .0) (span .span-at .ensures .0) m m₂ f) (next-below (p .0) (p .1) (p .2))
 
-add-t14 : tie.Need-add-t14
-add-t14 c =
-    let s = c .before .before .before .before .before .before .before .before .before .before .before .before .before .before .before .before .before .before .before .before .before .before .before .before .before .before .before .before .before .before .before .before .before .before .before .before .before .before .before in
-    let p = s .pre in
-    let n = c .before .before .before .before .before .before .before .before .before .before .before .before .before .before .before .before .before .before .before .before .before .before .before .before .before .before .before .before .before .before .before .before .before .before .nodes-in .ensures in
-    let k = c .before .before .before .before .before .before .before .before .before .before .before .before .before .before .before .before .before .before .before .before .before .before .before .before .before .before .before .before .before .before .before .before .before .chain-nodes .ensures in
-    let t = c .before .before .before .before .before .before .before .before .before .before .before .before .before .before .before .before .before .before .before .before .before .before .before .before .before .before .before .before .span-at .ensures in
-    omega arith
+add-t12 : tie.Need-add-t12
+add-t12 c =
+    let span = c .before .before .before .before .before .before .before .before .before .before .before .before .before .before .before .before .before .before .before .before .before .before .before .before .before .before .before .before in
+    let p = span .before .before .before .before .before .before .before .before .pre in
+    slot-fits (p .0) _ (end-next (p .0) (p .1) (p .2) _ (span .span-at .ensures .0))
 
 chain-requires : tie.Need-chain-requires
 chain-requires c κs =
-    let s = c .before .before .before .before .before .before .before .before .before .before .before .before .before .before .before .before .before .before .before .before .before .before .before .before .before .before .before .before .before .before .before .before .before .before .before .before .before .before .before in
+    let parted = c .before .before .before .before .before .before in
+    let cut = parted .before .before .before .before .before in
+    let next = cut .before .before .before .before .before .before in
+    let moved = next .before .before .before .before .before .before .before in
+    let span = moved .before .before .before .before in
+    let read = span .before .before .before in
+    let s = read .before .before .before .before .before in
     let p = s .pre in
-    let n = c .before .before .before .before .before .before .before .before .before .before .before .before .before .before .before .before .before .before .before .before .before .before .before .before .before .before .before .before .before .before .before .before .before .before .nodes-in .ensures in
-    let k = c .before .before .before .before .before .before .before .before .before .before .before .before .before .before .before .before .before .before .before .before .before .before .before .before .before .before .before .before .before .before .before .before .before .chain-nodes .ensures in
-    let t = c .before .before .before .before .before .before .before .before .before .before .before .before .before .before .before .before .before .before .before .before .before .before .before .before .before .before .before .before .span-at .ensures in
-    let m = c .before .before .before .before .before .before .before .before .before .before .before .before .before .before .before .before .before .before .before .before .before .before .before .before .move-slots .ensures in
-    let m₂ = c .before .before .before .before .before .before .before .before .before .before .before .before .before .before .before .before .before .move-slots2 .ensures in
-    let f = c .before .before .before .before .before .before .before .before .before .before .before .keep-front .kept in
-    let g = c .before .before .before .before .before .before .keep-back .ensures in
-    let b = c .before .before .before .before .before .before .before .before .before .before .before .before .before .before .before .before .before .before .before .before .before .before .before .before .before .before .before .before .before .before .before .start-at .ensures in
-    omega arith
+    let up = then (when-moved (next .move-slots2 .ensures)) (when-moved (moved .move-slots .ensures)) in
+    let f = here (p .0) up (cut-within (p .0) (p .1 .cuts)) (cut .keep-front .ensures .0) in
+    builds (p .0) (then (when-filled (parted .keep-back .ensures .0)) (then (when-filled f) up)) _ _ (s .args .rest .now) (leaf-last (p .0) (p .1) (p .2) _ (span .span-at .ensures .0)) (p .1 .left) (leaf-deep (p .0) (p .1) (p .2) _ (read .start-at .ensures .0))
 
 same-length : tie.Need-same-length
-same-length c = search needs
+same-length c = c .before .before .before .before .chain .ensures .lenB ∙ c .before .before .before .before .before .before .before .before .before .before .before .keep-back .ensures .0 .lenB ∙ c .before .before .before .before .before .before .before .before .before .before .before .before .before .before .before .before .before .before .before .before .before .before .move-slots2 .ensures .lenB ∙ c .before .before .before .before .before .before .before .before .before .before .before .before .before .before .before .before .before .before .before .before .before .before .before .before .before .before .before .before .before .move-slots .ensures .lenB
 
 same-length-2 : tie.Need-same-length-2
-same-length-2 c = search needs
+same-length-2 c =
+    let cut = c .before .before .before .before .before .before .before .before .before .before .before .before .before .before .before .before in
+    let up = then (when-moved (cut .before .before .before .before .before .before .move-slots2 .ensures)) (when-moved (cut .before .before .before .before .before .before .before .before .before .before .before .before .before .move-slots .ensures)) in
+    let p = cut .before .before .before .before .before .before .before .before .before .before .before .before .before .before .before .before .before .before .before .before .before .before .before .before .before .pre in
+    c .before .before .before .before .chain .ensures .lenW ∙ c .before .before .before .before .before .before .before .before .before .before .before .keep-back .ensures .0 .lenW ∙ here (p .0) up (cut-within (p .0) (p .1 .cuts)) (cut .keep-front .ensures .0) .lenW ∙ up .words
 
 returns : tie.Need-returns
 returns c =
-    let s = c .before .before .before .before .before .before .before .before .before .before .before .before .before .before .before .before .before .before .before .before .before .before .before .before .before .before .before .before .before .before .before .before .before .before .before .before .before .before .before .before .before .before .before .before in
+    let built = c .before .before .before .before in
+    let parted = built .before .before .before .before .before .before .before in
+    let cut = parted .before .before .before .before .before in
+    let next = cut .before .before .before .before .before .before in
+    let m₂ = next .move-slots2 .ensures in
+    let moved = next .before .before .before .before .before .before .before in
+    let m = moved .move-slots .ensures in
+    let span = moved .before .before .before .before in
+    let read = span .before .before .before in
+    let s = read .before .before .before .before .before in
     let p = s .pre in
-    let n = c .before .before .before .before .before .before .before .before .before .before .before .before .before .before .before .before .before .before .before .before .before .before .before .before .before .before .before .before .before .before .before .before .before .before .before .before .before .before .before .nodes-in .ensures in
-    let k = c .before .before .before .before .before .before .before .before .before .before .before .before .before .before .before .before .before .before .before .before .before .before .before .before .before .before .before .before .before .before .before .before .before .before .before .before .before .before .chain-nodes .ensures in
-    let t = c .before .before .before .before .before .before .before .before .before .before .before .before .before .before .before .before .before .before .before .before .before .before .before .before .before .before .before .before .before .before .before .before .before .span-at .ensures in
-    let m = c .before .before .before .before .before .before .before .before .before .before .before .before .before .before .before .before .before .before .before .before .before .before .before .before .before .before .before .before .before .move-slots .ensures in
-    let m₂ = c .before .before .before .before .before .before .before .before .before .before .before .before .before .before .before .before .before .before .before .before .before .before .move-slots2 .ensures in
-    forked-behind _ _ _ _ _ _ _ _ _ (s .args .rest .now) (s .args .number .0) (c .before .before .before .before .before .before .before .before .before .before .before .before .before .before .before .before .before .before .before .before .before .before .before .before .before .before .before .before .before .before .before .before .before .before .before .before .start-at .ensures .0) (n .0) (p .1) (record { words = omega arith; labels = omega arith }) (p .2) k
-    _ _ _ _ _ _ _ _ _ (t .0) (omega arith) (omega arith) m m₂ (c .before .before .before .before .before .before .before .before .before .before .before .before .before .before .before .before .keep-front .ensures .0 _ (omega (arith, m .lenB, m₂ .lenB)), c .before .before .before .before .before .before .before .before .before .before .before .before .before .before .before .before .keep-front .ensures .1)
-    (c .before .before .before .before .before .before .before .before .before .before .before .keep-back .ensures) (c .before .before .before .before .chain .ensures)
+    let f = here (p .0) (then (when-moved m₂) (when-moved m)) (cut-within (p .0) (p .1 .cuts)) (cut .keep-front .ensures .0) in
+    forked-behind (s .args .number .0) (p .0) (p .1) (p .2) (p .3) (read .start-at .ensures .0) (span .span-at .ensures .0) m m₂ (f, cut .keep-front .ensures .1) (parted .keep-back .ensures) (built .chain .ensures)
 
 pub fork-behind-spec : {M : Type 1} → statement M
 fork-behind-spec =
     tie.close
     (tie.spec
-    nodes-in-requires
-    chain-nodes-requires
     start-at-requires
     add-start
     add-lower
     span-at-requires
     add-end
-    add-move-slots
     move-slots-requires
     move-slots-requires-2
     keep-front-requires
     keep-back-requires
-    add-t14
+    add-t12
     chain-requires
     same-length
     same-length-2

@@ -1,0 +1,169 @@
+-- `insert::place` meets its contract, by where the search has ended. Assumes nothing.
+use mathlib.Core.Path.{refl}
+use native.Mathlib.Omega.{arith}
+use Rattle.tree.specs.Key.{Bytes}
+use Rattle.tree.specs.Image.{numbersW}
+use Rattle.pool.proofs.Answers.{bytes-of}
+use Rattle.search.specs.declared.Stop.{Stop}
+use Rattle.search.proofs.Answers.{Known, gotAt}
+use Rattle.insert.proofs.Ends.{root-asks, same-asks, gap-within, gap-asks, gap-slots, inside-asks, inside-grows, fork-asks, fork-slots, from-fits, from-most, meets}
+use borrow.Author.Needs.{needs}
+use Rattle.insert.proofs.place.Statement.{statement}
+use Rattle.insert.proofs.place.Tie as tie
+
+-- what is known of the place
+known : (c : tie.After-shared-slice-known) → let a = c .before .before .before .args in Known (a .words .now) (a .labels .now) (a .key .now) (a .d)
+known c =
+    let start = c .before .before .before in
+    record {
+      rule = start .pre .0;
+      bytes = bytes-of (start .args .labels .now) (λ i. omega (arith, c .before .before .slice-known .given i));
+      short = start .pre .1;
+      lands = start .pre .2;
+    }
+
+key-bytes : (c : tie.After-shared-slice-known) → Bytes (c .before .before .before .args .key .now)
+key-bytes c = bytes-of (c .before .before .before .args .key .now) (λ i. omega (arith, c .shared-slice-known .given i))
+
+enum-told : tie.Need-enum-told
+enum-told c = search needs
+
+set-number-requires : tie.Need-set-number-requires
+set-number-requires c κs = root-asks (known (c .before .before .before .before)) (c .before .enum-told .given .1)
+
+enum-told-2 : tie.Need-enum-told-2
+enum-told-2 c = search needs
+
+sub-add-leaf : tie.Need-sub-add-leaf
+sub-add-leaf c = omega (arith, gap-within (known (c .before .before .before .before .before)) (c .before .before .enum-told2 .given .1))
+
+part-add-leaf-start : tie.Need-part-add-leaf-start
+part-add-leaf-start c = omega (arith, gap-within (known (c .before .before .before .before .before)) (c .before .before .enum-told2 .given .1))
+
+part-add-leaf-end : tie.Need-part-add-leaf-end
+part-add-leaf-end c = search needs
+
+add-leaf-requires : tie.Need-add-leaf-requires
+add-leaf-requires c κs =
+    let w = known (c .before .before .before .before .before .before) in
+    let e = c .before .before .before .enum-told2 .given .1 in
+    let p = c .before .before .before .before .before .before .before .before .before .pre in
+    (p .3, gap-asks w e, gap-slots w _ (p .4) e)
+
+enum-told-3 : tie.Need-enum-told-3
+enum-told-3 c = search needs
+
+set-number-requires-2 : tie.Need-set-number-requires-2
+set-number-requires-2 c κs = same-asks (known (c .before .before .before .before)) (c .before .enum-told3 .given .1)
+
+enum-known-stop : tie.Need-enum-known-stop
+enum-known-stop c = search needs
+
+add-cut-requires : tie.Need-add-cut-requires
+add-cut-requires c κs =
+    let w = known (c .before .before .before .before .before .before) in
+    let e = c .before .before .before .stop .given .1 in
+    let p = c .before .before .before .before .before .before .before .before .before .pre in
+    let a = inside-asks w _ e in
+    (inside-grows w _ (p .4) _ (p .3) _ e, a .1, a .0)
+
+enum-known-stop-2 : tie.Need-enum-known-stop-2
+enum-known-stop-2 c = search needs
+
+add-from : tie.Need-add-from
+add-from c = from-fits (known (c .before .before .before .before)) _ (c .before .stop2 .given .1)
+
+sub-add-fork : tie.Need-sub-add-fork
+sub-add-fork c = from-most (known (c .before .before .before .before .before .before)) _ (c .before .before .before .stop2 .given .1)
+
+part-add-fork-start : tie.Need-part-add-fork-start
+part-add-fork-start c = omega (arith, from-most (known (c .before .before .before .before .before .before)) _ (c .before .before .before .stop2 .given .1))
+
+part-add-fork-end : tie.Need-part-add-fork-end
+part-add-fork-end c = search needs
+
+add-fork-requires : tie.Need-add-fork-requires
+add-fork-requires c κs =
+    let w = known (c .before .before .before .before .before .before .before) in
+    let e = c .before .before .before .before .stop2 .given .1 in
+    let p = c .before .before .before .before .before .before .before .before .before .before .pre in
+    (p .3, fork-asks w _ e .1, fork-slots w _ (p .4) _ e, p .0)
+
+same-length : tie.Need-same-length
+same-length c = search needs
+
+returns : tie.Need-returns
+unfolding gotAt
+returns c = meets (known (c .before .before .before .before .before .before .before)) (key-bytes (c .before .before .before .before .before .before .before)) _ Stop.Root (c .before .before .before .before .enum-told .given .1) _ _ _ (c .before .before .set-number .ensures _ (c .before .before .before .before .before .before .before .before .before .before .pre .0))
+
+same-length-2 : tie.Need-same-length-2
+same-length-2 c = search needs
+
+same-length-3 : tie.Need-same-length-3
+same-length-3 c = search needs
+
+returns-2 : tie.Need-returns-2
+unfolding gotAt numbersW
+returns-2 c = meets (known (c .before .before .before .before .before .before .before .before .before .before .before)) (key-bytes (c .before .before .before .before .before .before .before .before .before .before .before)) _ Stop.Gap (c .before .before .before .before .before .before .before .before .enum-told2 .given .1) _ _ _ (c .before .before .before .before .add-leaf .ensures)
+
+same-length-4 : tie.Need-same-length-4
+same-length-4 c = search needs
+
+returns-3 : tie.Need-returns-3
+unfolding gotAt
+returns-3 c = meets (known (c .before .before .before .before .before .before .before)) (key-bytes (c .before .before .before .before .before .before .before)) _ Stop.Same (c .before .before .before .before .enum-told3 .given .1) _ _ _ (c .before .before .set-number2 .ensures _ (c .before .before .before .before .before .before .before .before .before .before .pre .0))
+
+same-length-5 : tie.Need-same-length-5
+same-length-5 c = search needs
+
+same-length-6 : tie.Need-same-length-6
+same-length-6 c = search needs
+
+returns-4 : tie.Need-returns-4
+unfolding gotAt numbersW
+returns-4 c = meets (known (c .before .before .before .before .before .before .before .before .before .before .before)) (key-bytes (c .before .before .before .before .before .before .before .before .before .before .before)) _ (Stop.Inside _) (c .before .before .before .before .before .before .before .before .stop .given .1) _ _ _ (c .before .before .before .before .add-cut .ensures)
+
+same-length-7 : tie.Need-same-length-7
+same-length-7 c = search needs
+
+same-length-8 : tie.Need-same-length-8
+same-length-8 c = search needs
+
+returns-5 : tie.Need-returns-5
+unfolding gotAt numbersW
+returns-5 c = meets (known (c .before .before .before .before .before .before .before .before .before .before .before .before)) (key-bytes (c .before .before .before .before .before .before .before .before .before .before .before .before)) _ (Stop.Fork _) (c .before .before .before .before .before .before .before .before .before .stop2 .given .1) _ _ _ (c .before .before .before .before .add-fork .ensures)
+
+pub place-spec : {M : Type 1} → statement M
+place-spec =
+    tie.close
+    (tie.spec
+    enum-told
+    set-number-requires
+    enum-told-2
+    sub-add-leaf
+    part-add-leaf-start
+    part-add-leaf-end
+    add-leaf-requires
+    enum-told-3
+    set-number-requires-2
+    enum-known-stop
+    add-cut-requires
+    enum-known-stop-2
+    add-from
+    sub-add-fork
+    part-add-fork-start
+    part-add-fork-end
+    add-fork-requires
+    same-length
+    returns
+    same-length-2
+    same-length-3
+    returns-2
+    same-length-4
+    returns-3
+    same-length-5
+    same-length-6
+    returns-4
+    same-length-7
+    same-length-8
+    returns-5)
