@@ -348,8 +348,11 @@ module _ {ws bs key : List ℕ} {d : Descent} (w : Known ws bs key d) where
   gap-place : d .stop ≡ Stop.Gap → (d .at .0 ≤ nodesOf ws) × (d .above < length key)
   gap-place e = gap-ready (holds w) key (d .at .0) (d .end .0) (d .parent .0) (d .above) (place w Stop.Gap e)
 
-  pub gap-within : d .stop ≡ Stop.Gap → d .above < length key
+  gap-within : d .stop ≡ Stop.Gap → d .above < length key
   gap-within e = gap-place e .1
+
+  pub gap-most : d .stop ≡ Stop.Gap → d .above ≤ length key
+  gap-most e = omega (arith, gap-within e)
 
   pub gap-asks : d .stop ≡ Stop.Gap → Opens ws bs (d .at .0) (d .above) (left key (d .above))
   unfolding keyMax

@@ -45,17 +45,10 @@ settle-at-requires c κs =
     settles (p .0) (cut-two (p .0) (p .1) (p .2) m (f, cut .keep-front .ensures .1) b .1) (b .0 .lenW ∙ f .lenW ∙ m .lenW)
 
 same-length : tie.Need-same-length
-same-length c = c .before .before .before .before .before .before .before .before .keep-back .ensures .0 .lenB ∙ c .before .before .before .before .before .before .before .before .before .before .before .before .before .before .before .before .before .before .before .move-slots .ensures .lenB
+same-length c = c .before .before .before .before .before .before .before .before .keep-back .kept .0 ∙ c .before .before .before .before .before .before .before .before .before .before .before .before .before .before .before .before .before .before .before .move-slots .kept .0
 
 same-length-2 : tie.Need-same-length-2
-same-length-2 c =
-    let settled = c .before .before in
-    let parted = settled .before .before .before .before .before .before in
-    let cut = parted .before .before .before .before .before in
-    let moved = cut .before .before .before .before .before .before in
-    let m = moved .move-slots .ensures in
-    let p = moved .before .before .before .before .before .before .pre in
-    settled .settle-at .ensures .len ∙ parted .keep-back .ensures .0 .lenW ∙ here (p .0) (when-moved m) (cut-within (p .0) (p .1)) (cut .keep-front .ensures .0) .lenW ∙ m .lenW
+same-length-2 c = c .before .before .settle-at .kept .0 ∙ c .before .before .before .before .before .before .before .before .keep-back .kept .1 .0 ∙ c .before .before .before .before .before .before .before .before .before .before .before .before .before .keep-front .kept .0 ∙ c .before .before .before .before .before .before .before .before .before .before .before .before .before .before .before .before .before .before .before .move-slots .kept .1 .0
 
 returns : tie.Need-returns
 returns c =

@@ -18,10 +18,10 @@ settle-at-requires : tie.Need-settle-at-requires
 settle-at-requires c κs = let l = c .before .before .before .before .before .fork-label .ensures in settles (c .before .before .before .before .before .before .before .before .before .before .before .before .pre .0) (l .1) (l .0 .lenW)
 
 same-length : tie.Need-same-length
-same-length c = c .before .before .before .before .before .before .before .before .fork-label .ensures .0 .lenB
+same-length c = c .before .before .before .before .before .before .before .before .fork-label .kept .0
 
 same-length-2 : tie.Need-same-length-2
-same-length-2 c = c .before .before .settle-at .ensures .len ∙ c .before .before .before .before .before .before .before .before .fork-label .ensures .0 .lenW
+same-length-2 c = c .before .before .settle-at .kept .0 ∙ c .before .before .before .before .before .before .before .before .fork-label .kept .1 .0
 
 returns : tie.Need-returns
 returns c =

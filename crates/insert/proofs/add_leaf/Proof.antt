@@ -30,10 +30,10 @@ settle-at-requires c κs =
     settles (p .0) (leaf-opened (s .args .number .0) (p .0) (p .1) (p .2) m b .1) (b .lenW ∙ m .lenW)
 
 same-length : tie.Need-same-length
-same-length c = c .before .before .before .before .before .before .before .before .chain .ensures .lenB ∙ c .before .before .before .before .before .before .before .before .before .before .before .before .before .before .before .move-slots .ensures .lenB
+same-length c = c .before .before .before .before .before .before .before .before .chain .kept .0 ∙ c .before .before .before .before .before .before .before .before .before .before .before .before .before .before .before .move-slots .kept .0
 
 same-length-2 : tie.Need-same-length-2
-same-length-2 c = c .before .before .settle-at .ensures .len ∙ c .before .before .before .before .before .before .before .before .chain .ensures .lenW ∙ c .before .before .before .before .before .before .before .before .before .before .before .before .before .before .before .move-slots .ensures .lenW
+same-length-2 c = c .before .before .settle-at .kept .0 ∙ c .before .before .before .before .before .before .before .before .chain .kept .1 .0 ∙ c .before .before .before .before .before .before .before .before .before .before .before .before .before .before .before .move-slots .kept .1 .0
 
 returns : tie.Need-returns
 returns c =

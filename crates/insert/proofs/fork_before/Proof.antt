@@ -52,14 +52,10 @@ keep-back-requires c κs =
     keeps-back (p .0) (p .1 .cuts) (then (when-built b) (then (when-filled f) (when-moved m))) (before-lower (s .args .number .0) (p .0) (p .1) (p .2) (p .3) (read .start-at .ensures .0) m f b) (lower-within (p .0) (p .1) (p .2))
 
 same-length : tie.Need-same-length
-same-length c = c .before .before .before .before .keep-back .ensures .0 .lenB ∙ c .before .before .before .before .before .before .before .before .before .before .before .chain .ensures .lenB ∙ c .before .before .before .before .before .before .before .before .before .before .before .before .before .before .before .before .before .before .before .before .before .before .move-slots .ensures .lenB
+same-length c = c .before .before .before .before .keep-back .kept .0 ∙ c .before .before .before .before .before .before .before .before .before .before .before .chain .kept .0 ∙ c .before .before .before .before .before .before .before .before .before .before .before .before .before .before .before .before .before .before .before .before .before .before .move-slots .kept .0
 
 same-length-2 : tie.Need-same-length-2
-same-length-2 c =
-    let cut = c .before .before .before .before .before .before .before .before .before .before .before .before .before .before .before .before in
-    let m = cut .before .before .before .before .before .before .move-slots .ensures in
-    let p = cut .before .before .before .before .before .before .before .before .before .before .before .before .before .before .before .before .pre in
-    c .before .before .before .before .keep-back .ensures .0 .lenW ∙ c .before .before .before .before .before .before .before .before .before .before .before .chain .ensures .lenW ∙ here (p .0) (when-moved m) (cut-within (p .0) (p .1 .cuts)) (cut .keep-front .ensures .0) .lenW ∙ m .lenW
+same-length-2 c = c .before .before .before .before .keep-back .kept .1 .0 ∙ c .before .before .before .before .before .before .before .before .before .before .before .chain .kept .1 .0 ∙ c .before .before .before .before .before .before .before .before .before .before .before .before .before .before .before .before .keep-front .kept .0 ∙ c .before .before .before .before .before .before .before .before .before .before .before .before .before .before .before .before .before .before .before .before .before .before .move-slots .kept .1 .0
 
 returns : tie.Need-returns
 returns c =

@@ -79,14 +79,15 @@ chain-requires c κs =
     builds (p .0) (then (when-filled (parted .keep-back .ensures .0)) (then (when-filled f) up)) _ _ (s .args .rest .now) (leaf-last (p .0) (p .1) (p .2) _ (span .span-at .ensures .0)) (p .1 .left) (leaf-deep (p .0) (p .1) (p .2) _ (read .start-at .ensures .0))
 
 same-length : tie.Need-same-length
-same-length c = c .before .before .before .before .chain .ensures .lenB ∙ c .before .before .before .before .before .before .before .before .before .before .before .keep-back .ensures .0 .lenB ∙ c .before .before .before .before .before .before .before .before .before .before .before .before .before .before .before .before .before .before .before .before .before .before .move-slots2 .ensures .lenB ∙ c .before .before .before .before .before .before .before .before .before .before .before .before .before .before .before .before .before .before .before .before .before .before .before .before .before .before .before .before .before .move-slots .ensures .lenB
+same-length c = c .before .before .before .before .chain .kept .0 ∙ c .before .before .before .before .before .before .before .before .before .before .before .keep-back .kept .0 ∙ c .before .before .before .before .before .before .before .before .before .before .before .before .before .before .before .before .before .before .before .before .before .before .move-slots2 .kept .0 ∙ c .before .before .before .before .before .before .before .before .before .before .before .before .before .before .before .before .before .before .before .before .before .before .before .before .before .before .before .before .before .move-slots .kept .0
 
 same-length-2 : tie.Need-same-length-2
 same-length-2 c =
-    let cut = c .before .before .before .before .before .before .before .before .before .before .before .before .before .before .before .before in
-    let up = then (when-moved (cut .before .before .before .before .before .before .move-slots2 .ensures)) (when-moved (cut .before .before .before .before .before .before .before .before .before .before .before .before .before .move-slots .ensures)) in
-    let p = cut .before .before .before .before .before .before .before .before .before .before .before .before .before .before .before .before .before .before .before .before .before .before .before .before .before .pre in
-    c .before .before .before .before .chain .ensures .lenW ∙ c .before .before .before .before .before .before .before .before .before .before .before .keep-back .ensures .0 .lenW ∙ here (p .0) up (cut-within (p .0) (p .1 .cuts)) (cut .keep-front .ensures .0) .lenW ∙ up .words
+    c .before .before .before .before .chain .kept .1 .0
+    ∙ c .before .before .before .before .before .before .before .before .before .before .before .keep-back .kept .1 .0
+    ∙ c .before .before .before .before .before .before .before .before .before .before .before .before .before .before .before .before .keep-front .kept .0
+    ∙ c .before .before .before .before .before .before .before .before .before .before .before .before .before .before .before .before .before .before .before .before .before .before .move-slots2 .kept .1 .0
+    ∙ c .before .before .before .before .before .before .before .before .before .before .before .before .before .before .before .before .before .before .before .before .before .before .before .before .before .before .before .before .before .move-slots .kept .1 .0
 
 returns : tie.Need-returns
 returns c =

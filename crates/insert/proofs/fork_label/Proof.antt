@@ -12,10 +12,10 @@ fork-before-requires : tie.Need-fork-before-requires
 fork-before-requires c κs = c .before .before .before .before .before .before .before .before .before .pre
 
 same-length : tie.Need-same-length
-same-length c = c .before .before .before .before .fork-before .ensures .0 .lenB
+same-length c = c .before .before .before .before .fork-before .kept .0
 
 same-length-2 : tie.Need-same-length-2
-same-length-2 c = c .before .before .before .before .fork-before .ensures .0 .lenW
+same-length-2 c = c .before .before .before .before .fork-before .kept .1 .0
 
 returns : tie.Need-returns
 returns c =
@@ -29,10 +29,10 @@ fork-behind-requires : tie.Need-fork-behind-requires
 fork-behind-requires c κs = c .before .before .before .before .before .before .before .before .before .pre
 
 same-length-3 : tie.Need-same-length-3
-same-length-3 c = c .before .before .before .before .fork-behind .ensures .0 .lenB
+same-length-3 c = c .before .before .before .before .fork-behind .kept .0
 
 same-length-4 : tie.Need-same-length-4
-same-length-4 c = c .before .before .before .before .fork-behind .ensures .0 .lenW
+same-length-4 c = c .before .before .before .before .fork-behind .kept .1 .0
 
 returns-2 : tie.Need-returns-2
 returns-2 c =

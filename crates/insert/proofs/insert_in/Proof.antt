@@ -6,7 +6,6 @@ use Rattle.pool.proofs.Answers.{bytes-of}
 use Rattle.search.proofs.Answers.{Known}
 use Rattle.insert.proofs.Asks.{pool-words, count-fits}
 use Rattle.insert.proofs.Ends.{left-asks, grows-by, no-room}
-use borrow.Author.Needs.{needs}
 use Rattle.insert.proofs.insert_in.Statement.{statement}
 use Rattle.insert.proofs.insert_in.Tie as tie
 
@@ -52,10 +51,10 @@ place-requires c κs =
     (p .0, p .1, tested .before .before .before .before .descend .ensures, grows-by (p .0) _ _ (tested .before .before .nodes-in .ensures .0) (tested .if1 .left), tested .before .new-nodes .ensures .0)
 
 same-length-3 : tie.Need-same-length-3
-same-length-3 c = search needs
+same-length-3 c = c .before .before .before .before .place .kept .0
 
 same-length-4 : tie.Need-same-length-4
-same-length-4 c = search needs
+same-length-4 c = c .before .before .before .before .place .kept .1 .0
 
 returns-2 : tie.Need-returns-2
 returns-2 c = c .before .before .before .before .place .ensures

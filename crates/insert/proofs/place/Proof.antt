@@ -6,7 +6,7 @@ use Rattle.tree.specs.Image.{numbersW}
 use Rattle.pool.proofs.Answers.{bytes-of}
 use Rattle.search.specs.declared.Stop.{Stop}
 use Rattle.search.proofs.Answers.{Known, gotAt}
-use Rattle.insert.proofs.Ends.{root-asks, same-asks, gap-within, gap-asks, gap-slots, inside-asks, inside-grows, fork-asks, fork-slots, from-fits, from-most, meets}
+use Rattle.insert.proofs.Ends.{root-asks, same-asks, gap-most, gap-asks, gap-slots, inside-asks, inside-grows, fork-asks, fork-slots, from-fits, from-most, meets}
 use borrow.Author.Needs.{needs}
 use Rattle.insert.proofs.place.Statement.{statement}
 use Rattle.insert.proofs.place.Tie as tie
@@ -35,10 +35,10 @@ enum-told-2 : tie.Need-enum-told-2
 enum-told-2 c = search needs
 
 sub-add-leaf : tie.Need-sub-add-leaf
-sub-add-leaf c = omega (arith, gap-within (known (c .before .before .before .before .before)) (c .before .before .enum-told2 .given .1))
+sub-add-leaf c = gap-most (known (c .before .before .before .before .before)) (c .before .before .enum-told2 .given .1)
 
 part-add-leaf-start : tie.Need-part-add-leaf-start
-part-add-leaf-start c = omega (arith, gap-within (known (c .before .before .before .before .before)) (c .before .before .enum-told2 .given .1))
+part-add-leaf-start c = gap-most (known (c .before .before .before .before .before)) (c .before .before .enum-told2 .given .1)
 
 part-add-leaf-end : tie.Need-part-add-leaf-end
 part-add-leaf-end c = search needs
@@ -77,7 +77,7 @@ sub-add-fork : tie.Need-sub-add-fork
 sub-add-fork c = from-most (known (c .before .before .before .before .before .before)) _ (c .before .before .before .stop2 .given .1)
 
 part-add-fork-start : tie.Need-part-add-fork-start
-part-add-fork-start c = omega (arith, from-most (known (c .before .before .before .before .before .before)) _ (c .before .before .before .stop2 .given .1))
+part-add-fork-start c = from-most (known (c .before .before .before .before .before .before)) _ (c .before .before .before .stop2 .given .1)
 
 part-add-fork-end : tie.Need-part-add-fork-end
 part-add-fork-end c = search needs
@@ -90,44 +90,44 @@ add-fork-requires c κs =
     (p .3, fork-asks w _ e .1, fork-slots w _ (p .4) _ e, p .0)
 
 same-length : tie.Need-same-length
-same-length c = search needs
+same-length c = c .before .before .set-number .kept .0
 
 returns : tie.Need-returns
 unfolding gotAt
 returns c = meets (known (c .before .before .before .before .before .before .before)) (key-bytes (c .before .before .before .before .before .before .before)) _ Stop.Root (c .before .before .before .before .enum-told .given .1) _ _ _ (c .before .before .set-number .ensures _ (c .before .before .before .before .before .before .before .before .before .before .pre .0))
 
 same-length-2 : tie.Need-same-length-2
-same-length-2 c = search needs
+same-length-2 c = c .before .before .before .before .add-leaf .kept .0
 
 same-length-3 : tie.Need-same-length-3
-same-length-3 c = search needs
+same-length-3 c = c .before .before .before .before .add-leaf .kept .1 .0
 
 returns-2 : tie.Need-returns-2
 unfolding gotAt numbersW
 returns-2 c = meets (known (c .before .before .before .before .before .before .before .before .before .before .before)) (key-bytes (c .before .before .before .before .before .before .before .before .before .before .before)) _ Stop.Gap (c .before .before .before .before .before .before .before .before .enum-told2 .given .1) _ _ _ (c .before .before .before .before .add-leaf .ensures)
 
 same-length-4 : tie.Need-same-length-4
-same-length-4 c = search needs
+same-length-4 c = c .before .before .set-number2 .kept .0
 
 returns-3 : tie.Need-returns-3
 unfolding gotAt
 returns-3 c = meets (known (c .before .before .before .before .before .before .before)) (key-bytes (c .before .before .before .before .before .before .before)) _ Stop.Same (c .before .before .before .before .enum-told3 .given .1) _ _ _ (c .before .before .set-number2 .ensures _ (c .before .before .before .before .before .before .before .before .before .before .pre .0))
 
 same-length-5 : tie.Need-same-length-5
-same-length-5 c = search needs
+same-length-5 c = c .before .before .before .before .add-cut .kept .0
 
 same-length-6 : tie.Need-same-length-6
-same-length-6 c = search needs
+same-length-6 c = c .before .before .before .before .add-cut .kept .1 .0
 
 returns-4 : tie.Need-returns-4
 unfolding gotAt numbersW
 returns-4 c = meets (known (c .before .before .before .before .before .before .before .before .before .before .before)) (key-bytes (c .before .before .before .before .before .before .before .before .before .before .before)) _ (Stop.Inside _) (c .before .before .before .before .before .before .before .before .stop .given .1) _ _ _ (c .before .before .before .before .add-cut .ensures)
 
 same-length-7 : tie.Need-same-length-7
-same-length-7 c = search needs
+same-length-7 c = c .before .before .before .before .add-fork .kept .0
 
 same-length-8 : tie.Need-same-length-8
-same-length-8 c = search needs
+same-length-8 c = c .before .before .before .before .add-fork .kept .1 .0
 
 returns-5 : tie.Need-returns-5
 unfolding gotAt numbersW
