@@ -14,6 +14,7 @@ use Rattle.tree.proofs.Nodes.{chainNodes, leaf-nodes}
 use Rattle.label.proofs.Moves.{by-lt}
 use Rattle.pool.specs.Layout.{spanOf}
 use Rattle.pool.specs.Records.{run}
+use Rattle.pool.specs.Rule.{Within}
 use Rattle.pool.specs.Splice.{Bare, bareAt, baresFrom, nodeBare, baresF, bareOf, Filled}
 use Rattle.pool.proofs.Runs.{run-cons, run-ext}
 use Rattle.pool.proofs.Bares.{baresF-length}
@@ -74,7 +75,7 @@ leaf-beside s a k v f = go (drop room k) refl
   where
     go : (d : Key) → drop room k ≡ d → baresF s (leaf a k v f) ≡ baresF s (leaf a k v nil) ++ baresF s f
     go [] e = rw (leaf-short a k v f e, leaf-short a k v nil e)
-    go (y ∷ r) e = rw (leaf-long a k v f y r e, leaf-long a k v nil y r e) (simp (append-assoc, append-nil))
+    go (y ∷ r) e = rw (leaf-long a k v f y r e, leaf-long a k v nil y r e) (simp append-assoc)
 
 -- Its nodes
 pub leaf-length : (s : ℕ) (q : Key) (v : ℕ) → 1 ≤ length q → length (leafBares s q v) ≡ leafNodes (length q)
@@ -163,10 +164,10 @@ pub built-leaf : (ws bs vs cs : List ℕ) (at s : ℕ) (q : Key) (v : ℕ) → 1
     → spanOf vs at ≡ 1 → Built ws bs vs cs at (leafBares s q v)
 built-leaf ws bs vs cs at s q v h l f e = rw (leaf-one s q v h l) (built-one f e)
 
-pub built-chain : (ws bs us ds vs cs : List ℕ) (at s : ℕ) (q : Key) (v : ℕ) → 255 * at + 255 ≤ length bs → 255 < length q
+pub built-chain : (ws bs us ds vs cs : List ℕ) (at s : ℕ) (q : Key) (v : ℕ) → Within ws bs (at + leafNodes (length q)) → 255 < length q
     → Filled ws bs us ds at (bareOf s (take 255 q) none) → spanOf us at ≡ leafNodes (length q)
     → Built us ds vs cs (at + 1) (leafBares (s + 255) (take (length q - 255) (drop 255 q)) v) → Built ws bs vs cs at (leafBares s q v)
-built-chain ws bs us ds vs cs at s q v h l f n b =
+built-chain ws bs us ds vs cs at s q v w l f n b =
     let e : take (length q - 255) (drop 255 q) ≡ drop 255 q = take-all (length q - 255) (drop 255 q) (omega (arith, length-drop 255 q)) in
     let c : spanOf us at ≡ suc (length (leafBares (s + 255) (drop 255 q) v)) = n ∙ sym (leaf-length s q v (omega arith)) ∙ ap length (leaf-more s q v l) in
-    rw (leaf-more s q v l) (built-more h f c (rw e at b))
+    rw (leaf-more s q v l) (built-more (omega (arith, w .labels)) f c (rw e at b))

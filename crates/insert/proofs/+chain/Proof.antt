@@ -32,13 +32,16 @@ chain-put-linked-requires : (t : ℕ) → chain-lts.Need-put-linked-requires (ch
 chain-put-linked-requires t c κs = search needs
 
 chain-same-length : (t : ℕ) → chain-lts.Need-same-length (chain-told t) (chain-at t) chain.Post
-chain-same-length t c = search needs
+chain-same-length t c = c .before .before .before .before .put-linked .kept .0
 
 chain-same-length-2 : (t : ℕ) → chain-lts.Need-same-length-2 (chain-told t) (chain-at t) chain.Post
-chain-same-length-2 t c = search needs
+chain-same-length-2 t c = c .before .before .before .before .put-linked .kept .1 .0
 
 chain-returns : (t : ℕ) → chain-lts.Need-returns (chain-told t) (chain-at t) chain.Post
-chain-returns t c = built-leaf _ _ _ _ _ _ _ _ (omega arith) (omega arith) (c .before .before .before .before .put-linked .ensures .0) (c .before .before .before .before .put-linked .ensures .1)
+chain-returns t c =
+    let put = c .before .before .before .before in
+    let tested = put .before .before .before in
+    built-leaf _ _ _ _ _ _ _ _ (tested .before .before .before .before .pre .1 .1) (tested .if1 .taken) (put .put-linked .ensures .0) (put .put-linked .ensures .1)
 
 chain-chain-nodes-requires : (t : ℕ) → chain-lts.Need-chain-nodes-requires (chain-told t) (chain-at t) chain.Post
 chain-chain-nodes-requires t c κs = search needs
@@ -74,16 +77,20 @@ chain-chain-requires : (t : ℕ) → chain-lts.Need-chain-requires (chain-told t
 chain-chain-requires t c κs = search needs
 
 chain-same-length-3 : (t : ℕ) → chain-lts.Need-same-length-3 (chain-told t) (chain-at t) chain.Post
-chain-same-length-3 t c = search needs
+chain-same-length-3 t c = c .before .before .before .before .chain .kept .0 ∙ c .before .before .before .before .before .before .before .before .before .before .before .before .before .put-linked2 .kept .0
 
 chain-same-length-4 : (t : ℕ) → chain-lts.Need-same-length-4 (chain-told t) (chain-at t) chain.Post
-chain-same-length-4 t c = search needs
+chain-same-length-4 t c = c .before .before .before .before .chain .kept .1 .0 ∙ c .before .before .before .before .before .before .before .before .before .before .before .before .before .put-linked2 .kept .1 .0
 
 chain-returns-2 : (t : ℕ) → chain-lts.Need-returns-2 (chain-told t) (chain-at t) chain.Post
 chain-returns-2 t c =
-    let a = c .before .before .before .before .before .before .before .before .before .before .before .before .before .before .before .before .before .before .before .before .before .before .args in
-    let p = c .before .before .before .before .before .before .before .before .before .before .before .before .before .put-linked2 .ensures in
-    built-chain _ _ _ _ _ _ _ (a .start) (a .rest .now) (a .number .0) (omega arith) (omega arith) (p .0) (p .1 ∙ c .before .before .before .before .before .before .before .before .before .before .before .before .before .before .before .before .before .chain-nodes .ensures) (c .before .before .before .before .chain .ensures)
+    let built = c .before .before .before .before in
+    let put = built .before .before .before .before .before .before .before .before .before in
+    let counted = put .before .before .before .before in
+    let s = counted .before .before .before .before .before in
+    let a = s .args in
+    let p = put .put-linked2 .ensures in
+    built-chain _ _ _ _ _ _ _ (a .start) (a .rest .now) (a .number .0) (s .pre .1 .0) (counted .before .if1 .left) (p .0) (p .1 ∙ counted .chain-nodes .ensures) (built .chain .ensures)
 
 pub +chain-spec : {M : Type 1} → statement M
 +chain-spec = close μ-chain λ t. chain-lts.spec (chain-told t) (chain-at t) chain.Post
