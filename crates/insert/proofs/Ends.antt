@@ -32,7 +32,10 @@ use Rattle.pool.specs.Splice.{Bare, bareAt, baresFrom, nodeBare, baresF, rootBa
 use Rattle.pool.proofs.Stands.{Stands, Holds, nodes-are, stands-at}
 use Rattle.pool.proofs.Held.{slot-is-rec}
 use Rattle.pool.proofs.Bares.{Stops, stops-beside, stops-deeper, baresF-length, node-bares, stands-bares, ahead, behind, ahead-length, tree-around}
+use types.Run.{OneOf}
+use denote.Enum.Declared.{tagOf}
 use Rattle.search.specs.declared.Stop.{Stop}
+use Rattle.search.proofs.Stop.{the-type}
 use Rattle.search.specs.declared.Descent.{Descent}
 use Rattle.search.specs.Landing.{Ends, Place, PlaceOf}
 use Rattle.search.proofs.Places.{plug-stands, plug-wf, plug-nodes, nodes-node, leads-drop, leads-length}
@@ -317,6 +320,24 @@ root-place : (t : Tree) (key : Key) (at end up above : ℕ) → PlaceOf t key St
 root-place t [] at end up above p = p
 root-place t (a ∷ k) at end up above p = absurd (p .ends)
 
+-- The ways of ending at which a number is set, as the code tells them apart: the first and the third
+abbrev AtNumber : Stop → Type 0
+AtNumber Stop.Root = Unit {0}
+AtNumber Stop.Gap = ⊥
+AtNumber Stop.Same = Unit {0}
+AtNumber (Stop.Inside m) = ⊥
+AtNumber (Stop.Fork m) = ⊥
+
+at-number : (s : Stop) → OneOf (0 ∷ 2 ∷ []) (tagOf the-type s) → AtNumber s
+at-number Stop.Root h = tt
+at-number Stop.Gap (inl e) = omega arith
+at-number Stop.Gap (inr e) = omega arith
+at-number Stop.Same h = tt
+at-number (Stop.Inside m) (inl e) = omega arith
+at-number (Stop.Inside m) (inr e) = omega arith
+at-number (Stop.Fork m) (inl e) = omega arith
+at-number (Stop.Fork m) (inr e) = omega arith
+
 -- The room that the code has tested for
 pub grows-by : {ws bs : List ℕ} → PoolRule ws bs → (n k : ℕ) → n ≡ nodesOf ws → n + k ≤ length bs / 255 → Grows ws bs n k
 grows-by r n k e h =
@@ -332,18 +353,28 @@ module _ {ws bs key : List ℕ} {d : Descent} (w : Known ws bs key d) where
   abbrev SetAsks : Type 0
   SetAsks = (6 * nodesOf ws + 8 ≤ length ws) × (d .at .0 < nodesOf ws) × (lenOf ws (d .at .0) ≤ 255)
 
-  pub root-asks : d .stop ≡ Stop.Root → SetAsks
+  root-asks : d .stop ≡ Stop.Root → SetAsks
   root-asks e =
       let p = place w Stop.Root e in
       let z = root-place (tree w) key (d .at .0) (d .end .0) (d .parent .0) (d .above) p in
       let r = w .rule in
       (slots-are, omega (arith, z, r .nodes), rw z (omega (arith, r .root-len)))
 
-  pub same-asks : d .stop ≡ Stop.Same → SetAsks
+  same-asks : d .stop ≡ Stop.Same → SetAsks
   same-asks e =
       let p = place w Stop.Same e in
       let h = holds w in
       (slots-are, place-within h key Stop.Same (d .at .0) (d .end .0) (d .parent .0) (d .above) tt p, same-short h key (d .at .0) (d .end .0) (d .parent .0) (d .above) p)
+
+  set-at : (s : Stop) → d .stop ≡ s → AtNumber s → SetAsks
+  set-at Stop.Root e h = root-asks e
+  set-at Stop.Gap e h = absurd h
+  set-at Stop.Same e h = same-asks e
+  set-at (Stop.Inside m) e h = absurd h
+  set-at (Stop.Fork m) e h = absurd h
+
+  pub set-asks : OneOf (0 ∷ 2 ∷ []) (tagOf the-type (d .stop)) → SetAsks
+  set-asks h = set-at (d .stop) refl (at-number (d .stop) h)
 
   gap-place : d .stop ≡ Stop.Gap → (d .at .0 ≤ nodesOf ws) × (d .above < length key)
   gap-place e = gap-ready (holds w) key (d .at .0) (d .end .0) (d .parent .0) (d .above) (place w Stop.Gap e)
@@ -429,6 +460,22 @@ module _ {ws bs key : List ℕ} {d : Descent} (w : Known ws bs key d) where
       let g = get-place h key s (d .at .0) (d .end .0) (d .parent .0) (d .above) p in
       placed-meets (tree-is w) h key v by (w .short) vs cs (done (numbersW (gotAt s (numAt ws (d .at .0))) [])) told
       (splits h v key s (d .at .0) (d .end .0) (d .parent .0) (d .above) p) (ap (λ (n : Num). done (numbersW n [])) (sym g)) x
+
+  -- a number is set
+  set-there : Bytes key → (v : ℕ) (s : Stop) → d .stop ≡ s → AtNumber s → (vs cs : List ℕ) (told : Told)
+      → Placed ws bs vs cs (d .at .0) 1 (frontOf (lenOf ws (d .at .0)) (some v) (bareAt ws bs (d .at .0)) ∷ []) (done (numbersW (numAt ws (d .at .0)) [])) told
+      → Meets (insertCall (poolTree ws bs) (slotsIn bs) key v) told ws bs vs cs
+  unfolding gotAt
+  set-there by v Stop.Root e h vs cs told x = meets by v Stop.Root e vs cs told x
+  set-there by v Stop.Gap e h vs cs told x = absurd h
+  set-there by v Stop.Same e h vs cs told x = meets by v Stop.Same e vs cs told x
+  set-there by v (Stop.Inside m) e h vs cs told x = absurd h
+  set-there by v (Stop.Fork m) e h vs cs told x = absurd h
+
+  pub set-meets : OneOf (0 ∷ 2 ∷ []) (tagOf the-type (d .stop)) → Bytes key → (v : ℕ) {vs cs : List ℕ} {told : Told}
+      → Placed ws bs vs cs (d .at .0) 1 (frontOf (lenOf ws (d .at .0)) (some v) (bareAt ws bs (d .at .0)) ∷ []) (done (numbersW (numAt ws (d .at .0)) [])) told
+      → Meets (insertCall (poolTree ws bs) (slotsIn bs) key v) told ws bs vs cs
+  set-meets h by v {vs} {cs} {told} x = set-there by v (d .stop) refl (at-number (d .stop) h) vs cs told x
 
   -- there is none
   pub no-room : Bytes key → (v n k : ℕ) → n ≡ nodesOf ws → k ≡ newNodes (d .stop) (d .above) (length key) → length bs / 255 < n + k

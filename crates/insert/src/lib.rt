@@ -250,9 +250,8 @@ fn place(
     let above = d.above;
     let stop = d.stop;
     match stop {
-        Stop::Root => set_number(words, at, number),
+        Stop::Root | Stop::Same => set_number(words, at, number),
         Stop::Gap => add_leaf(labels, words, at, n, k, above, &key[above..], number),
-        Stop::Same => set_number(words, at, number),
         Stop::Inside(m) => add_cut(labels, words, at, n, m, number),
         Stop::Fork(m) => {
             let from = above + m;

@@ -6,7 +6,7 @@ use Rattle.tree.specs.Image.{numbersW}
 use Rattle.pool.proofs.Answers.{bytes-of}
 use Rattle.search.specs.declared.Stop.{Stop}
 use Rattle.search.proofs.Answers.{Known, gotAt}
-use Rattle.insert.proofs.Ends.{root-asks, same-asks, gap-most, gap-asks, gap-slots, inside-asks, inside-grows, fork-asks, fork-slots, from-fits, from-most, meets}
+use Rattle.insert.proofs.Ends.{set-asks, set-meets, gap-most, gap-asks, gap-slots, inside-asks, inside-grows, fork-asks, fork-slots, from-fits, from-most, meets}
 use borrow.Author.Needs.{needs}
 use Rattle.insert.proofs.place.Statement.{statement}
 use Rattle.insert.proofs.place.Tie as tie
@@ -25,20 +25,17 @@ known c =
 key-bytes : (c : tie.After-shared-slice-known) → Bytes (c .before .before .before .args .key .now)
 key-bytes c = bytes-of (c .before .before .before .args .key .now) (λ i. omega (arith, c .shared-slice-known .given i))
 
+set-number-requires : tie.Need-set-number-requires
+set-number-requires c κs = set-asks (known (c .before .before .before)) (c .before .match .keys1)
+
 enum-told : tie.Need-enum-told
 enum-told c = search needs
 
-set-number-requires : tie.Need-set-number-requires
-set-number-requires c κs = root-asks (known (c .before .before .before .before)) (c .before .enum-told .given .1)
-
-enum-told-2 : tie.Need-enum-told-2
-enum-told-2 c = search needs
-
 sub-add-leaf : tie.Need-sub-add-leaf
-sub-add-leaf c = gap-most (known (c .before .before .before .before .before)) (c .before .before .enum-told2 .given .1)
+sub-add-leaf c = gap-most (known (c .before .before .before .before .before)) (c .before .before .enum-told .given .1)
 
 part-add-leaf-start : tie.Need-part-add-leaf-start
-part-add-leaf-start c = gap-most (known (c .before .before .before .before .before)) (c .before .before .enum-told2 .given .1)
+part-add-leaf-start c = gap-most (known (c .before .before .before .before .before)) (c .before .before .enum-told .given .1)
 
 part-add-leaf-end : tie.Need-part-add-leaf-end
 part-add-leaf-end c = search needs
@@ -46,15 +43,9 @@ part-add-leaf-end c = search needs
 add-leaf-requires : tie.Need-add-leaf-requires
 add-leaf-requires c κs =
     let w = known (c .before .before .before .before .before .before) in
-    let e = c .before .before .before .enum-told2 .given .1 in
+    let e = c .before .before .before .enum-told .given .1 in
     let p = c .before .before .before .before .before .before .before .before .before .pre in
     (p .3, gap-asks w e, gap-slots w _ (p .4) e)
-
-enum-told-3 : tie.Need-enum-told-3
-enum-told-3 c = search needs
-
-set-number-requires-2 : tie.Need-set-number-requires-2
-set-number-requires-2 c κs = same-asks (known (c .before .before .before .before)) (c .before .enum-told3 .given .1)
 
 enum-known-stop : tie.Need-enum-known-stop
 enum-known-stop c = search needs
@@ -93,8 +84,9 @@ same-length : tie.Need-same-length
 same-length c = c .before .before .set-number .kept .0
 
 returns : tie.Need-returns
-unfolding gotAt
-returns c = meets (known (c .before .before .before .before .before .before .before)) (key-bytes (c .before .before .before .before .before .before .before)) _ Stop.Root (c .before .before .before .before .enum-told .given .1) _ _ _ (c .before .before .set-number .ensures _ (c .before .before .before .before .before .before .before .before .before .before .pre .0))
+returns c =
+    let set = c .before .before in
+    set-meets (known (set .before .before .before .before)) (set .before .before .match .keys1) (key-bytes (set .before .before .before .before)) _ (set .set-number .ensures _ (set .before .before .before .before .before .before .before .pre .0))
 
 same-length-2 : tie.Need-same-length-2
 same-length-2 c = c .before .before .before .before .add-leaf .kept .0
@@ -104,48 +96,38 @@ same-length-3 c = c .before .before .before .before .add-leaf .kept .1 .0
 
 returns-2 : tie.Need-returns-2
 unfolding gotAt numbersW
-returns-2 c = meets (known (c .before .before .before .before .before .before .before .before .before .before .before)) (key-bytes (c .before .before .before .before .before .before .before .before .before .before .before)) _ Stop.Gap (c .before .before .before .before .before .before .before .before .enum-told2 .given .1) _ _ _ (c .before .before .before .before .add-leaf .ensures)
+returns-2 c = meets (known (c .before .before .before .before .before .before .before .before .before .before .before)) (key-bytes (c .before .before .before .before .before .before .before .before .before .before .before)) _ Stop.Gap (c .before .before .before .before .before .before .before .before .enum-told .given .1) _ _ _ (c .before .before .before .before .add-leaf .ensures)
 
 same-length-4 : tie.Need-same-length-4
-same-length-4 c = c .before .before .set-number2 .kept .0
-
-returns-3 : tie.Need-returns-3
-unfolding gotAt
-returns-3 c = meets (known (c .before .before .before .before .before .before .before)) (key-bytes (c .before .before .before .before .before .before .before)) _ Stop.Same (c .before .before .before .before .enum-told3 .given .1) _ _ _ (c .before .before .set-number2 .ensures _ (c .before .before .before .before .before .before .before .before .before .before .pre .0))
+same-length-4 c = c .before .before .before .before .add-cut .kept .0
 
 same-length-5 : tie.Need-same-length-5
-same-length-5 c = c .before .before .before .before .add-cut .kept .0
+same-length-5 c = c .before .before .before .before .add-cut .kept .1 .0
+
+returns-3 : tie.Need-returns-3
+unfolding gotAt numbersW
+returns-3 c = meets (known (c .before .before .before .before .before .before .before .before .before .before .before)) (key-bytes (c .before .before .before .before .before .before .before .before .before .before .before)) _ (Stop.Inside _) (c .before .before .before .before .before .before .before .before .stop .given .1) _ _ _ (c .before .before .before .before .add-cut .ensures)
 
 same-length-6 : tie.Need-same-length-6
-same-length-6 c = c .before .before .before .before .add-cut .kept .1 .0
+same-length-6 c = c .before .before .before .before .add-fork .kept .0
+
+same-length-7 : tie.Need-same-length-7
+same-length-7 c = c .before .before .before .before .add-fork .kept .1 .0
 
 returns-4 : tie.Need-returns-4
 unfolding gotAt numbersW
-returns-4 c = meets (known (c .before .before .before .before .before .before .before .before .before .before .before)) (key-bytes (c .before .before .before .before .before .before .before .before .before .before .before)) _ (Stop.Inside _) (c .before .before .before .before .before .before .before .before .stop .given .1) _ _ _ (c .before .before .before .before .add-cut .ensures)
-
-same-length-7 : tie.Need-same-length-7
-same-length-7 c = c .before .before .before .before .add-fork .kept .0
-
-same-length-8 : tie.Need-same-length-8
-same-length-8 c = c .before .before .before .before .add-fork .kept .1 .0
-
-returns-5 : tie.Need-returns-5
-unfolding gotAt numbersW
-returns-5 c = meets (known (c .before .before .before .before .before .before .before .before .before .before .before .before)) (key-bytes (c .before .before .before .before .before .before .before .before .before .before .before .before)) _ (Stop.Fork _) (c .before .before .before .before .before .before .before .before .before .stop2 .given .1) _ _ _ (c .before .before .before .before .add-fork .ensures)
+returns-4 c = meets (known (c .before .before .before .before .before .before .before .before .before .before .before .before)) (key-bytes (c .before .before .before .before .before .before .before .before .before .before .before .before)) _ (Stop.Fork _) (c .before .before .before .before .before .before .before .before .before .stop2 .given .1) _ _ _ (c .before .before .before .before .add-fork .ensures)
 
 pub place-spec : {M : Type 1} → statement M
 place-spec =
     tie.close
     (tie.spec
-    enum-told
     set-number-requires
-    enum-told-2
+    enum-told
     sub-add-leaf
     part-add-leaf-start
     part-add-leaf-end
     add-leaf-requires
-    enum-told-3
-    set-number-requires-2
     enum-known-stop
     add-cut-requires
     enum-known-stop-2
@@ -160,10 +142,8 @@ place-spec =
     same-length-3
     returns-2
     same-length-4
-    returns-3
     same-length-5
+    returns-3
     same-length-6
-    returns-4
     same-length-7
-    same-length-8
-    returns-5)
+    returns-4)
