@@ -326,6 +326,17 @@ pub cut-two : {ws bs us ds vs vs₂ cs₂ : List ℕ} {at n m : ℕ} {u : Num} �
 cut-two {ws} {bs} {us} {ds} {vs} {vs₂} {cs₂} {at} {n} {m} {u} g c rule mv f b =
     cut-parts ws bs us ds vs ds vs ds vs₂ cs₂ at n 0 m (at + 1) u [] (omega arith) (g .nodes) c (g .within) rule mv f refl (built-none vs ds (at + 1)) (leafy-none vs (at + 1) (startOf ws at + m)) b
 
+-- The two parts of a fork, where the leaf comes behind the subtree
+module _ {ws bs us ds us₂ ds₂ : List ℕ} {at n k m span : ℕ} {q : Key} (g : Grows ws bs n k) (fork : Forks ws at m q) (kn : k ≡ 1 + leafNodes (length q)) (sp : span ≡ spanOf ws at)
+    (mv : Moved ws bs us ds (at + span) n k) (mv₂ : Moved us ds us₂ ds₂ at (at + span) 1) where
+  pub behind-upper : bareAt us₂ ds₂ at ≡ bareAt ws bs at
+  behind-upper = mv₂ .low at (omega arith) ∙ mv .low at (omega (arith, fork .span))
+
+  pub behind-lower : {vs cs : List ℕ} {x : Bare} → Filled us₂ ds₂ vs cs at x → bareAt vs cs (at + 1) ≡ bareAt ws bs at
+  behind-lower {vs} {cs} {x} f =
+      let inside = fork .inside in
+      high-lower ws bs us ds us₂ ds₂ at n (leafNodes (length q)) m (at + span) (g .nodes) (fork .cuts) (rw kn at (g .within)) (omega (arith, fork .span)) (omega (arith, g .nodes)) (rw kn at mv) mv₂ vs cs x f
+
 -- A fork: the k new slots are the lower part's, and those of the leaf for what is left of the key.
 module _ {ws bs : List ℕ} {at n k m start : ℕ} {q : Key} (v : ℕ) (g : Grows ws bs n k) (fork : Forks ws at m q) (kn : k ≡ 1 + leafNodes (length q)) (rule : PoolRule ws bs) (st : start ≡ startOf ws at) where
   abbrev leaf : List Bare
@@ -355,17 +366,6 @@ module _ {ws bs : List ℕ} {at n k m start : ℕ} {q : Key} (v : ℕ) (g : Grow
       let r = cut-parts ws bs us ds vs cs vs₂ cs₂ vs₃ cs₃ at n (leafNodes (length q)) m (at + k) none leaf (omega arith) (g .nodes) (fork .cuts) all-within rule mv′ f leaf-count b′
       (built-leafy vs cs vs₂ cs₂ (at + 1) (startOf ws at + m) q v (leafNodes (length q)) (fork .left) leaf-count b′) l in
       (r .0, rw kn (r .1))
-
-  -- the two parts, where the leaf comes behind the subtree
-  pub behind-upper : {us ds us₂ ds₂ : List ℕ} {span : ℕ} → span ≡ spanOf ws at → Moved ws bs us ds (at + span) n k → Moved us ds us₂ ds₂ at (at + span) 1 → bareAt us₂ ds₂ at ≡ bareAt ws bs at
-  behind-upper {us} {ds} {us₂} {ds₂} {span} sp mv mv₂ = mv₂ .low at (omega arith) ∙ mv .low at (omega (arith, fork .span))
-
-  pub behind-lower : {us ds us₂ ds₂ vs cs : List ℕ} {span : ℕ} {x : Bare} → span ≡ spanOf ws at → Moved ws bs us ds (at + span) n k → Moved us ds us₂ ds₂ at (at + span) 1
-      → Filled us₂ ds₂ vs cs at x → bareAt vs cs (at + 1) ≡ bareAt ws bs at
-  behind-lower {us} {ds} {us₂} {ds₂} {vs} {cs} {span} {x} sp mv mv₂ f =
-      let s = fork .span in
-      let i = fork .inside in
-      f .others (at + 1) (λ z. omega arith) (omega (arith, g .nodes, g .within .labels, mv .lenB, mv₂ .lenB)) ∙ mv₂ .moved at (omega arith) (omega arith) ∙ mv .low at (omega arith)
 
   pub forked-behind : {us ds us₂ ds₂ vs cs vs₂ cs₂ vs₃ cs₃ : List ℕ} {span : ℕ} → span ≡ spanOf ws at → Moved ws bs us ds (at + span) n k → Moved us ds us₂ ds₂ at (at + span) 1
       → Filled us₂ ds₂ vs cs at (frontOf m none (bareAt us₂ ds₂ at)) × (spanOf vs at ≡ spanOf us₂ at)

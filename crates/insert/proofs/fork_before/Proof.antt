@@ -30,26 +30,21 @@ keep-front-requires c κs =
 chain-requires : tie.Need-chain-requires
 chain-requires c κs =
     let cut = c .before .before .before .before in
-    let moved = cut .before .before .before .before .before .before in
-    let m = when-moved (moved .move-slots .ensures) in
-    let read = moved .before .before .before .before .before in
-    let s = read .before .before .before .before .before in
+    let up = when-moved (cut .before .before .before .before .before .before .move-slots .ensures) in
+    let s = cut .before .before .before .before .before .before .before .before .before .before .before .before .before .before .before .before in
     let p = s .pre in
-    let f = here (p .0) m (cut-within (p .0) (p .1 .cuts)) (cut .keep-front .ensures .0) in
-    builds (p .0) (then (when-filled f) m) _ _ (s .args .rest .now) (leaf-next (p .0) (p .1) (p .2)) (p .1 .left) (leaf-deep (p .0) (p .1) (p .2) _ (read .start-at .ensures .0))
+    let f = here (p .0) up (cut-within (p .0) (p .1 .cuts)) (cut .keep-front .ensures .0) in
+    builds (p .0) (then (when-filled f) up) _ _ (s .args .rest .now) (leaf-next (p .0) (p .1) (p .2)) (p .1 .left) (leaf-deep (p .0) (p .1) (p .2) _ (cut .before .before .before .before .before .before .before .before .before .before .before .start-at .ensures .0))
 
 keep-back-requires : tie.Need-keep-back-requires
 keep-back-requires c κs =
-    let built = c .before .before .before .before .before .before in
-    let b = built .chain .ensures in
-    let cut = built .before .before .before .before .before in
-    let moved = cut .before .before .before .before .before .before in
-    let m = moved .move-slots .ensures in
-    let read = moved .before .before .before .before .before in
-    let s = read .before .before .before .before .before in
+    let b = c .before .before .before .before .before .before .chain .ensures in
+    let cut = c .before .before .before .before .before .before .before .before .before .before .before in
+    let m = cut .before .before .before .before .before .before .move-slots .ensures in
+    let s = cut .before .before .before .before .before .before .before .before .before .before .before .before .before .before .before .before in
     let p = s .pre in
     let f = here (p .0) (when-moved m) (cut-within (p .0) (p .1 .cuts)) (cut .keep-front .ensures .0) in
-    keeps-back (p .0) (p .1 .cuts) (then (when-built b) (then (when-filled f) (when-moved m))) (before-lower (s .args .number .0) (p .0) (p .1) (p .2) (p .3) (read .start-at .ensures .0) m f b) (lower-within (p .0) (p .1) (p .2))
+    keeps-back (p .0) (p .1 .cuts) (then (when-built b) (then (when-filled f) (when-moved m))) (before-lower (s .args .number .0) (p .0) (p .1) (p .2) (p .3) (cut .before .before .before .before .before .before .before .before .before .before .before .start-at .ensures .0) m f b) (lower-within (p .0) (p .1) (p .2))
 
 same-length : tie.Need-same-length
 same-length c = c .before .before .before .before .keep-back .kept .0 ∙ c .before .before .before .before .before .before .before .before .before .before .before .chain .kept .0 ∙ c .before .before .before .before .before .before .before .before .before .before .before .before .before .before .before .before .before .before .before .before .before .before .move-slots .kept .0
@@ -59,16 +54,13 @@ same-length-2 c = c .before .before .before .before .keep-back .kept .1 .0 ∙ c
 
 returns : tie.Need-returns
 returns c =
-    let parted = c .before .before .before .before in
-    let built = parted .before .before .before .before .before .before .before in
+    let built = c .before .before .before .before .before .before .before .before .before .before .before in
     let cut = built .before .before .before .before .before in
-    let moved = cut .before .before .before .before .before .before in
-    let m = moved .move-slots .ensures in
-    let read = moved .before .before .before .before .before in
-    let s = read .before .before .before .before .before in
+    let m = cut .before .before .before .before .before .before .move-slots .ensures in
+    let s = cut .before .before .before .before .before .before .before .before .before .before .before .before .before .before .before .before in
     let p = s .pre in
     let f = here (p .0) (when-moved m) (cut-within (p .0) (p .1 .cuts)) (cut .keep-front .ensures .0) in
-    forked-before (s .args .number .0) (p .0) (p .1) (p .2) (p .3) (read .start-at .ensures .0) m (f, cut .keep-front .ensures .1) (built .chain .ensures) (parted .keep-back .ensures)
+    forked-before (s .args .number .0) (p .0) (p .1) (p .2) (p .3) (cut .before .before .before .before .before .before .before .before .before .before .before .start-at .ensures .0) m (f, cut .keep-front .ensures .1) (built .chain .ensures) (c .before .before .before .before .keep-back .ensures)
 
 pub fork-before-spec : {M : Type 1} → statement M
 fork-before-spec =

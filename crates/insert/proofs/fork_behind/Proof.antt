@@ -35,28 +35,19 @@ keep-front-requires : tie.Need-keep-front-requires
 keep-front-requires c κs =
     let next = c .before .before .before .before .before in
     let m₂ = next .move-slots2 .ensures in
-    let moved = next .before .before .before .before .before .before .before in
-    let m = moved .move-slots .ensures in
-    let span = moved .before .before .before .before in
-    let read = span .before .before .before in
-    let s = read .before .before .before .before .before in
-    let p = s .pre in
-    keeps-front (p .0) (p .1 .cuts) (then (when-moved m₂) (when-moved m)) (behind-upper (s .args .number .0) (p .0) (p .1) (p .2) (p .3) (read .start-at .ensures .0) (span .span-at .ensures .0) m m₂) (cut-within (p .0) (p .1 .cuts))
+    let m = next .before .before .before .before .before .before .before .move-slots .ensures in
+    let p = next .before .before .before .before .before .before .before .before .before .before .before .before .before .before .before .before .before .before .before .pre in
+    keeps-front (p .0) (p .1 .cuts) (then (when-moved m₂) (when-moved m)) (behind-upper (p .0) (p .1) (p .2) (next .before .before .before .before .before .before .before .before .before .before .before .span-at .ensures .0) m m₂) (cut-within (p .0) (p .1 .cuts))
 
 keep-back-requires : tie.Need-keep-back-requires
 keep-back-requires c κs =
     let cut = c .before .before .before .before in
-    let next = cut .before .before .before .before .before .before in
-    let m₂ = next .move-slots2 .ensures in
-    let moved = next .before .before .before .before .before .before .before in
-    let m = moved .move-slots .ensures in
-    let span = moved .before .before .before .before in
-    let read = span .before .before .before in
-    let s = read .before .before .before .before .before in
-    let p = s .pre in
+    let m₂ = cut .before .before .before .before .before .before .move-slots2 .ensures in
+    let m = cut .before .before .before .before .before .before .before .before .before .before .before .before .before .move-slots .ensures in
+    let p = cut .before .before .before .before .before .before .before .before .before .before .before .before .before .before .before .before .before .before .before .before .before .before .before .before .before .pre in
     let up = then (when-moved m₂) (when-moved m) in
     let f = here (p .0) up (cut-within (p .0) (p .1 .cuts)) (cut .keep-front .ensures .0) in
-    keeps-back (p .0) (p .1 .cuts) (then (when-filled f) up) (behind-lower (s .args .number .0) (p .0) (p .1) (p .2) (p .3) (read .start-at .ensures .0) (span .span-at .ensures .0) m m₂ f) (next-below (p .0) (p .1) (p .2))
+    keeps-back (p .0) (p .1 .cuts) (then (when-filled f) up) (behind-lower (p .0) (p .1) (p .2) (cut .before .before .before .before .before .before .before .before .before .before .before .before .before .before .before .before .before .span-at .ensures .0) m m₂ f) (next-below (p .0) (p .1) (p .2))
 
 add-t12 : tie.Need-add-t12
 add-t12 c =
@@ -66,17 +57,12 @@ add-t12 c =
 
 chain-requires : tie.Need-chain-requires
 chain-requires c κs =
-    let parted = c .before .before .before .before .before .before in
-    let cut = parted .before .before .before .before .before in
-    let next = cut .before .before .before .before .before .before in
-    let moved = next .before .before .before .before .before .before .before in
-    let span = moved .before .before .before .before in
-    let read = span .before .before .before in
-    let s = read .before .before .before .before .before in
+    let cut = c .before .before .before .before .before .before .before .before .before .before .before in
+    let up = then (when-moved (cut .before .before .before .before .before .before .move-slots2 .ensures)) (when-moved (cut .before .before .before .before .before .before .before .before .before .before .before .before .before .move-slots .ensures)) in
+    let s = cut .before .before .before .before .before .before .before .before .before .before .before .before .before .before .before .before .before .before .before .before .before .before .before .before .before in
     let p = s .pre in
-    let up = then (when-moved (next .move-slots2 .ensures)) (when-moved (moved .move-slots .ensures)) in
     let f = here (p .0) up (cut-within (p .0) (p .1 .cuts)) (cut .keep-front .ensures .0) in
-    builds (p .0) (then (when-filled (parted .keep-back .ensures .0)) (then (when-filled f) up)) _ _ (s .args .rest .now) (leaf-last (p .0) (p .1) (p .2) _ (span .span-at .ensures .0)) (p .1 .left) (leaf-deep (p .0) (p .1) (p .2) _ (read .start-at .ensures .0))
+    builds (p .0) (then (when-filled (c .before .before .before .before .before .before .keep-back .ensures .0)) (then (when-filled f) up)) _ _ (s .args .rest .now) (leaf-last (p .0) (p .1) (p .2) _ (cut .before .before .before .before .before .before .before .before .before .before .before .before .before .before .before .before .before .span-at .ensures .0)) (p .1 .left) (leaf-deep (p .0) (p .1) (p .2) _ (cut .before .before .before .before .before .before .before .before .before .before .before .before .before .before .before .before .before .before .before .before .start-at .ensures .0))
 
 same-length : tie.Need-same-length
 same-length c = c .before .before .before .before .chain .kept .0 ∙ c .before .before .before .before .before .before .before .before .before .before .before .keep-back .kept .0 ∙ c .before .before .before .before .before .before .before .before .before .before .before .before .before .before .before .before .before .before .before .before .before .before .move-slots2 .kept .0 ∙ c .before .before .before .before .before .before .before .before .before .before .before .before .before .before .before .before .before .before .before .before .before .before .before .before .before .before .before .before .before .move-slots .kept .0
@@ -91,19 +77,13 @@ same-length-2 c =
 
 returns : tie.Need-returns
 returns c =
-    let built = c .before .before .before .before in
-    let parted = built .before .before .before .before .before .before .before in
-    let cut = parted .before .before .before .before .before in
-    let next = cut .before .before .before .before .before .before in
-    let m₂ = next .move-slots2 .ensures in
-    let moved = next .before .before .before .before .before .before .before in
-    let m = moved .move-slots .ensures in
-    let span = moved .before .before .before .before in
-    let read = span .before .before .before in
-    let s = read .before .before .before .before .before in
+    let cut = c .before .before .before .before .before .before .before .before .before .before .before .before .before .before .before .before in
+    let m₂ = cut .before .before .before .before .before .before .move-slots2 .ensures in
+    let m = cut .before .before .before .before .before .before .before .before .before .before .before .before .before .move-slots .ensures in
+    let s = cut .before .before .before .before .before .before .before .before .before .before .before .before .before .before .before .before .before .before .before .before .before .before .before .before .before in
     let p = s .pre in
     let f = here (p .0) (then (when-moved m₂) (when-moved m)) (cut-within (p .0) (p .1 .cuts)) (cut .keep-front .ensures .0) in
-    forked-behind (s .args .number .0) (p .0) (p .1) (p .2) (p .3) (read .start-at .ensures .0) (span .span-at .ensures .0) m m₂ (f, cut .keep-front .ensures .1) (parted .keep-back .ensures) (built .chain .ensures)
+    forked-behind (s .args .number .0) (p .0) (p .1) (p .2) (p .3) (cut .before .before .before .before .before .before .before .before .before .before .before .before .before .before .before .before .before .before .before .before .start-at .ensures .0) (cut .before .before .before .before .before .before .before .before .before .before .before .before .before .before .before .before .before .span-at .ensures .0) m m₂ (f, cut .keep-front .ensures .1) (c .before .before .before .before .before .before .before .before .before .before .before .keep-back .ensures) (c .before .before .before .before .chain .ensures)
 
 pub fork-behind-spec : {M : Type 1} → statement M
 fork-behind-spec =
