@@ -3,7 +3,7 @@ use mathlib.Core.Path.{_≡_, refl, sym, ap, _∙_}
 use mathlib.Core.List.{List, [], _∷_, _++_}
 use mathlib.Core.Bool.{true, false}
 use mathlib.Core.Option.{none}
-use Prim.Native.Nat.{ℕ, zero, suc, _+_, _*_, _-_, _≤_, _<_}
+use Prim.Native.Nat.{ℕ, suc, _+_, _*_, _-_, _≤_, _<_}
 use native.Mathlib.Omega.{arith}
 use lib.ListN.{length, length-append, length-drop}
 use lib.Seq.{length-take-le}
@@ -17,7 +17,7 @@ use Rattle.pool.specs.Spans.{Loose}
 use Rattle.pool.proofs.Bares.{start-is, len-is}
 use Rattle.pool.proofs.Cuts.{label-length}
 use Rattle.pool.proofs.Spans.{Rests, rule-rests}
-use Rattle.pool.proofs.Runs.{Parts, run-cons, run-whole, run-ext, run-length}
+use Rattle.pool.proofs.Runs.{run-cons, run-whole, run-ext, run-length}
 use Rattle.insert.specs.Splices.{leafNodes, leafBares, Built, Grows, Opens, Cuts, Replaced, Forks, forkBares}
 use Rattle.insert.proofs.Leaves.{run-one, leaf-length}
 use Rattle.insert.proofs.Spans.{like, Leafy, leafy-none, leafy-kept, built-leafy, leaf-loose}
@@ -81,29 +81,29 @@ module _ (ws bs vs cs : List ℕ) (at lo m : ℕ) (cut : m ≤ lenOf ws at) (sho
       }
 
 -- no slot at all
-pub built-none : (ws bs : List ℕ) (at : ℕ) → Built ws bs ws bs at []
+built-none : (ws bs : List ℕ) (at : ℕ) → Built ws bs ws bs at []
 built-none ws bs at = record { lenW = refl; lenB = refl; head = λ j h. refl; slots = unfold run in refl; low = λ i h r. refl; high = λ i h r. refl; low-span = λ i h. refl; new-span = λ i h l. absurd (omega arith); high-span = λ i h. refl }
 
 -- A cut with the records xs between its parts: the slots from `at` on have moved up by one more than there are xs.
 module _ (ws bs us ds : List ℕ) (at n k m lo : ℕ) (le : lo ≡ at + 1 + k) (e : n ≡ nodesOf ws) (c : Cuts ws at m) (w : Within ws bs (n + (1 + k))) (mv : Moved ws bs us ds at n (1 + k)) where
   -- the upper part is still there, and so is the lower one, further up
-  pub upper-there : bareAt us ds at ≡ bareAt ws bs at
+  upper-there : bareAt us ds at ≡ bareAt ws bs at
   upper-there = mv .low at (omega arith)
 
-  pub lower-there : bareAt us ds lo ≡ bareAt ws bs at
+  lower-there : bareAt us ds lo ≡ bareAt ws bs at
   lower-there =
       let j : lo ≡ at + (1 + k) = omega arith in
       ap (bareAt us ds) j ∙ mv .moved at (omega arith) (omega (arith, c .used))
 
   module _ (vs cs : List ℕ) (x : Bare) (f : Filled us ds vs cs at x) where
-    pub lower-next : bareAt vs cs lo ≡ bareAt ws bs at
+    lower-next : bareAt vs cs lo ≡ bareAt ws bs at
     lower-next = f .others lo (λ q. omega arith) (omega (arith, w .labels, mv .lenB, c .used)) ∙ lower-there
 
     module _ (vs₂ cs₂ : List ℕ) (xs : List Bare) (l : length xs ≡ k) (b : Built vs cs vs₂ cs₂ (at + 1) xs) where
-      pub lower-then : bareAt vs₂ cs₂ lo ≡ bareAt ws bs at
+      lower-then : bareAt vs₂ cs₂ lo ≡ bareAt ws bs at
       lower-then = b .high lo (omega arith) (omega (arith, w .labels, mv .lenB, f .lenB, c .used)) ∙ lower-next
 
-      pub cut-around : (vs₃ cs₃ : List ℕ) (y : Bare) → Filled vs₂ cs₂ vs₃ cs₃ lo y → Replaced ws bs vs₃ cs₃ at 1 (x ∷ xs ++ (y ∷ []))
+      cut-around : (vs₃ cs₃ : List ℕ) (y : Bare) → Filled vs₂ cs₂ vs₃ cs₃ lo y → Replaced ws bs vs₃ cs₃ at 1 (x ∷ xs ++ (y ∷ []))
       cut-around vs₃ cs₃ y g =
           let l₁ = mv .lenB in
           let l₂ = f .lenB in
@@ -137,7 +137,7 @@ module _ (ws bs us ds : List ℕ) (at n k m lo : ℕ) (le : lo ≡ at + 1 + k) (
           }
 
       -- and the spans that are short
-      pub cut-short : PoolRule ws bs → (vs₃ cs₃ : List ℕ) (u : Num) → x ≡ frontOf m u (bareAt ws bs at) → Filled vs₂ cs₂ vs₃ cs₃ lo (backOf m (bareAt ws bs at))
+      cut-short : PoolRule ws bs → (vs₃ cs₃ : List ℕ) (u : Num) → x ≡ frontOf m u (bareAt ws bs at) → Filled vs₂ cs₂ vs₃ cs₃ lo (backOf m (bareAt ws bs at))
           → spanOf vs at ≡ spanOf us at → spanOf vs₃ lo ≡ spanOf vs₂ lo → Leafy vs₂ (at + 1) k (startOf ws at + m) → Loose vs₃ (n + (1 + k)) (at + 1) (1 + k) 0
       cut-short rule vs₃ cs₃ u ex g own own₂ leaf =
           let l₁ = mv .lenB in
@@ -164,7 +164,7 @@ module _ (ws bs us ds : List ℕ) (at n k m lo : ℕ) (le : lo ≡ at + 1 + k) (
           (leafy-kept vs₂ vs₃ (at + 1) k (startOf ws at + m) (λ i h q. like vs₂ cs₂ vs₃ cs₃ i i (g .others i (λ y. omega arith) (omega arith)) (g .spans i (λ y. omega arith))) leaf)
 
 -- as the code leaves them: each part is made of what stands in its slot
-pub cut-parts : (ws bs us ds vs cs vs₂ cs₂ vs₃ cs₃ : List ℕ) (at n k m lo : ℕ) (u : Num) (xs : List Bare) → lo ≡ at + 1 + k → n ≡ nodesOf ws → Cuts ws at m → Within ws bs (n + (1 + k))
+cut-parts : (ws bs us ds vs cs vs₂ cs₂ vs₃ cs₃ : List ℕ) (at n k m lo : ℕ) (u : Num) (xs : List Bare) → lo ≡ at + 1 + k → n ≡ nodesOf ws → Cuts ws at m → Within ws bs (n + (1 + k))
     → PoolRule ws bs → Moved ws bs us ds at n (1 + k)
     → Filled us ds vs cs at (frontOf m u (bareAt us ds at)) × (spanOf vs at ≡ spanOf us at) → length xs ≡ k → Built vs cs vs₂ cs₂ (at + 1) xs
     → Leafy vs₂ (at + 1) k (startOf ws at + m) → Filled vs₂ cs₂ vs₃ cs₃ lo (backOf m (bareAt vs₂ cs₂ lo)) × (spanOf vs₃ lo ≡ spanOf vs₂ lo)
@@ -180,7 +180,7 @@ cut-parts ws bs us ds vs cs vs₂ cs₂ vs₃ cs₃ at n k m lo u xs le e c w ru
 -- A cut with the records xs behind the subtree of its lower part, which ends at `end`
 module _ (ws bs us ds us₂ ds₂ : List ℕ) (at n k m end : ℕ) (e : n ≡ nodesOf ws) (c : Cuts ws at m) (w : Within ws bs (n + (1 + k))) (less : at < end) (most : end ≤ n)
     (mv : Moved ws bs us ds end n (1 + k)) (mv₂ : Moved us ds us₂ ds₂ at end 1) where
-  pub high-upper : bareAt us₂ ds₂ at ≡ bareAt ws bs at
+  high-upper : bareAt us₂ ds₂ at ≡ bareAt ws bs at
   high-upper = mv₂ .low at (omega arith) ∙ mv .low at (omega arith)
 
   -- what stood from `at` on stands one slot higher
@@ -188,7 +188,7 @@ module _ (ws bs us ds us₂ ds₂ : List ℕ) (at n k m end : ℕ) (e : n ≡ no
   higher i h l = mv₂ .moved i h l ∙ mv .low i (omega arith)
 
   module _ (vs cs : List ℕ) (x : Bare) (f : Filled us₂ ds₂ vs cs at x) where
-    pub high-lower : bareAt vs cs (at + 1) ≡ bareAt ws bs at
+    high-lower : bareAt vs cs (at + 1) ≡ bareAt ws bs at
     high-lower = f .others (at + 1) (λ q. omega arith) (omega (arith, w .labels, mv .lenB, mv₂ .lenB)) ∙ higher at (omega arith) less
 
     module _ (vs₂ cs₂ : List ℕ) (y : Bare) (g : Filled vs cs vs₂ cs₂ (at + 1) y) (vs₃ cs₃ : List ℕ) (xs : List Bare) (l : length xs ≡ k)
@@ -208,7 +208,7 @@ module _ (ws bs us ds us₂ ds₂ : List ℕ) (at n k m end : ℕ) (e : n ≡ no
           ∙ ap (bareAt us₂ ds₂) j
           ∙ higher (at + 1 + i) (omega arith) (omega arith)
 
-      pub cut-behind : Replaced ws bs vs₃ cs₃ at (end - at) (x ∷ (y ∷ baresFrom ws bs (at + 1) (end - (at + 1))) ++ xs)
+      cut-behind : Replaced ws bs vs₃ cs₃ at (end - at) (x ∷ (y ∷ baresFrom ws bs (at + 1) (end - (at + 1))) ++ xs)
       cut-behind =
           let l₁ = mv .lenB in
           let l₂ = mv₂ .lenB in
@@ -257,7 +257,7 @@ module _ (ws bs us ds us₂ ds₂ : List ℕ) (at n k m end : ℕ) (e : n ≡ no
           }
 
       -- and the spans that are short
-      pub behind-short : PoolRule ws bs → end ≡ at + spanOf ws at → m < lenOf ws at → 1 ≤ k → x ≡ frontOf m none (bareAt ws bs at) → y ≡ backOf m (bareAt ws bs at)
+      behind-short : PoolRule ws bs → end ≡ at + spanOf ws at → m < lenOf ws at → 1 ≤ k → x ≡ frontOf m none (bareAt ws bs at) → y ≡ backOf m (bareAt ws bs at)
           → spanOf vs at ≡ spanOf us₂ at → spanOf vs₂ (at + 1) ≡ spanOf vs (at + 1) → Leafy vs₃ (end + 1) k (startOf ws at + m) → Loose vs₃ (n + (1 + k)) (at + 1) (1 + k) 0
       behind-short rule ended cut one ex ey own own₂ leaf =
           let l₁ = mv .lenB in
@@ -295,7 +295,7 @@ module _ (ws bs us ds us₂ ds₂ : List ℕ) (at n k m end : ℕ) (e : n ≡ no
           leaf
 
 -- as the code leaves them, where the subtree has so many nodes
-pub behind-parts : (ws bs us ds us₂ ds₂ vs cs vs₂ cs₂ vs₃ cs₃ : List ℕ) (at n k m span : ℕ) (xs : List Bare) → n ≡ nodesOf ws → Cuts ws at m → Within ws bs (n + (1 + k))
+behind-parts : (ws bs us ds us₂ ds₂ vs cs vs₂ cs₂ vs₃ cs₃ : List ℕ) (at n k m span : ℕ) (xs : List Bare) → n ≡ nodesOf ws → Cuts ws at m → Within ws bs (n + (1 + k))
     → 1 ≤ span → at + span ≤ n → PoolRule ws bs → span ≡ spanOf ws at → m < lenOf ws at → 1 ≤ k → Moved ws bs us ds (at + span) n (1 + k) → Moved us ds us₂ ds₂ at (at + span) 1
     → Filled us₂ ds₂ vs cs at (frontOf m none (bareAt us₂ ds₂ at)) × (spanOf vs at ≡ spanOf us₂ at)
     → Filled vs cs vs₂ cs₂ (at + 1) (backOf m (bareAt vs cs (at + 1))) × (spanOf vs₂ (at + 1) ≡ spanOf vs (at + 1))

@@ -105,10 +105,6 @@ leafy-covers vs n a k s l h next x p q =
       stop = λ o. omega (arith, next o, l .ends x p q);
     })
 
--- the numbers under other names
-pub loose-at : {vs : List ℕ} {n n′ a k k′ : ℕ} → n ≡ n′ → k ≡ k′ → Loose vs n a k 0 → Loose vs n′ a k′ 0
-loose-at {vs} {n} {n′} {a} {k} {k′} p q o = subst (λ (x : ℕ). Loose vs x a k′ 0) p (subst (λ (x : ℕ). Loose vs n a x 0) q o)
-
 -- The slots before a stay, and those from f on stand k slots higher.
 module _ (ws vs : List ℕ) (n a f k : ℕ) (order : a ≤ f) (low : (i : ℕ) → i < a → Like ws vs i i) (high : (i : ℕ) → f ≤ i → i < n → Like ws vs i (i + k)) where
   pub start-moved : (x : ℕ) → f + k ≤ x → x < n + k → startOf vs x ≡ startOf ws (x - k)

@@ -1,6 +1,5 @@
 -- `insert::chain` meets its contract, by the bytes left of the label. Assumes nothing.
 use borrow.Author.Needs.{needs}
-use native.Mathlib.Omega.{arith}
 use mathlib.Core.Path.{_∙_}
 use lib.ListN.{length}
 use Rattle.insert.proofs.Leaves.{built-leaf, built-chain}

@@ -1,5 +1,4 @@
 -- `insert::place` meets its contract, by where the search has ended. Assumes nothing.
-use mathlib.Core.Path.{refl}
 use native.Mathlib.Omega.{arith}
 use Rattle.tree.specs.Key.{Bytes}
 use Rattle.tree.specs.Image.{numbersW}
