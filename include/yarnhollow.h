@@ -56,9 +56,9 @@
  * STACK
  *
  * Read and write call themselves, level by level, and a key's bytes can stand on up to 4,096 levels. Measured at 4,096
- * levels: read took 1,053,488 bytes of stack, write 725,501. Call read with 2 MiB of stack left and write with 1 MiB; the
+ * levels: read took 1,114,375 bytes of stack, write 721,100. Call read with 2 MiB of stack left and write with 1 MiB; the
  * usual 8 MiB of a thread are enough for both. A thread with less must not read an image from outside: no call tests the
- * stack. `yarnhollow_next` took 28,264 bytes; the other calls take a few hundred.
+ * stack. `yarnhollow_next` took 23,851 bytes; the other calls take a few hundred.
  */
 #ifndef YARNHOLLOW_H
 #define YARNHOLLOW_H
