@@ -1,4 +1,5 @@
-// The fill: an image that has passed the check is believed, and written slot by slot, in the order of its records.
+// The fill: an image that has passed the check is believed. Its records are read in their order, and a node's slot is written
+// when its span is known, after those below it.
 ghost use mathlib.Core.Path.{_≡_};
 ghost use mathlib.Core.List.{[]};
 ghost use Prim.Native.Nat.{_+_, _≤_};
