@@ -91,7 +91,7 @@ start numbers = record { at = 0; left = numbers; nodes = 0 }
 abbrev pub RootChecked : (s : List ℕ) (numbers : ℕ) → Part → Type 0
 RootChecked s numbers r = NodeChecked s 0 0 0 (start numbers) r
 
--- Where a list of siblings begins, below the root; this settles every overflow.
+-- Where a part begins, below the root; this settles every overflow.
 pub record Place (s : List ℕ) (level path : ℕ) (from : Mark) : Type 0 where
   pub inside : from .at ≤ length s
   pub deep : 1 ≤ level
