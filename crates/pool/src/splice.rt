@@ -62,34 +62,44 @@ pub fn settle(words: &mut [u32], n: usize)
 }
 
 // Slot c on the way down to slot `at`, where k slots are new: if they belong to c, its span grows, and the next slot is its
-// first child; else the next slot is the one past its span.
-fn raise_slot(words: &mut [u32], c: Slot, at: Slot, k: usize) -> usize
-    requires { ⌜ (6 * nodesOf (now words) + 8 ≤ length (now words)) × (nodesOf (now words) ≤ 16384) × (c .0 < at .0) × Loose (now words) (nodesOf (now words)) (at .0) k (c .0) ⌝ }
-    ensures { λ r. ⌜ Raised (now (words .entry)) (now (words .exit)) (nodesOf (now (words .entry))) (at .0) k (c .0) r ⌝ }
+// first child; else the next slot is the one past its span. Gives that next slot.
+fn raise_slot(words: &mut [u32], c: Slot, at: Slot, k: usize) -> Slot
+    requires { do
+      let ws = now words
+      let n = nodesOf ws
+      ⌜ (6 * n + 8 ≤ length ws) × (n ≤ 16384) × (c .0 < at .0) × Loose ws n (at .0) k (c .0) ⌝ }
+    ensures { λ r. do
+      let ws = now (words .entry)
+      ⌜ Raised ws (now (words .exit)) (nodesOf ws) (at .0) k (c .0) (r .0) ⌝ }
 {
     let i = c.0;
     let span = crate::span_at(words, c);
     let end = i + span;
     if end < at.0 {
-        return end;
+        return Slot(end);
     }
     let base = crate::start_at(words, c) + crate::len_at(words, c);
     if crate::start_at(words, at) < base {
-        return end;
+        return Slot(end);
     }
     set_span(words, c, span + k);
-    i + 1
+    Slot(i + 1)
 }
 
 // Lets the spans of the ancestors of slot `at` grow by the k slots that are new there. Goes from the root down and jumps over
 // the subtrees that end before it.
 fn raise(words: &mut [u32], at: Slot, k: usize)
-    requires { ⌜ (6 * nodesOf (now words) + 8 ≤ length (now words)) × (nodesOf (now words) ≤ 16384) × Loose (now words) (nodesOf (now words)) (at .0) k 0 ⌝ }
-    ensures { λ _. ⌜ Relinked (now (words .entry)) (now (words .exit)) (nodesOf (now (words .entry))) ⌝ }
+    requires { do
+      let ws = now words
+      let n = nodesOf ws
+      ⌜ (6 * n + 8 ≤ length ws) × (n ≤ 16384) × Loose ws n (at .0) k 0 ⌝ }
+    ensures { λ _. do
+      let ws = now (words .entry)
+      ⌜ Relinked ws (now (words .exit)) (nodesOf ws) ⌝ }
 {
-    let mut c: usize = 0;
-    while c < at.0 {
-        c = raise_slot(words, Slot(c), at, k);
+    let mut c = Slot(0);
+    while c.0 < at.0 {
+        c = raise_slot(words, c, at, k);
     }
 }
 
