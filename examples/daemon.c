@@ -85,16 +85,16 @@ static void show_counts(const char *name, const struct pool *pool)
 /* The rule for a path: the longest stored key that the path starts with. */
 static void look_up(const char *path)
 {
-    size_t length = 0, shared = 0;
+    size_t prefix_length = 0, shared_length = 0;
     uint32_t rule = 0;
-    uint32_t number = yarnhollow_longest(LENT(&rules), (const uint8_t *)path, strlen(path), &length, &rule);
+    uint32_t number = yarnhollow_longest(LENT(&rules), (const uint8_t *)path, strlen(path), &prefix_length, &rule);
 
-    must("shared", yarnhollow_shared(LENT(&rules), (const uint8_t *)path, strlen(path), &shared));
+    must("shared", yarnhollow_shared(LENT(&rules), (const uint8_t *)path, strlen(path), &shared_length));
     if (number == YARNHOLLOW_DONE)
-        printf("%s: rule %u by %.*s", path, (unsigned)rule, (int)length, path);
+        printf("%s: rule %u by %.*s", path, (unsigned)rule, (int)prefix_length, path);
     else
         printf("%s: %u, %s", path, (unsigned)number, meaning(number));
-    printf("; shares %zu bytes\n", shared);
+    printf("; shares %zu bytes\n", shared_length);
 }
 
 /* Every key under a prefix, in order. The walk's state is here: two buffers that change places. */

@@ -135,14 +135,14 @@ uint32_t yarnhollow_remove(uint8_t *labels, size_t labels_len, uint32_t *words, 
  * Returns 0, 1, 2, or 3 where no stored key starts the query.
  */
 uint32_t yarnhollow_longest(const uint8_t *labels, size_t labels_len, const uint32_t *words, size_t words_len,
-                            const uint8_t *query, size_t query_len, size_t *length, uint32_t *number);
+                            const uint8_t *query, size_t query_len, size_t *prefix_length, uint32_t *number);
 
 /*
  * The greatest number of leading bytes that the query shares with any stored key, 0 where nothing is stored.
  * Returns 0, 1 or 2.
  */
 uint32_t yarnhollow_shared(const uint8_t *labels, size_t labels_len, const uint32_t *words, size_t words_len,
-                           const uint8_t *query, size_t query_len, size_t *length);
+                           const uint8_t *query, size_t query_len, size_t *shared_length);
 
 /*
  * A step of the walk under a prefix: the smallest stored key that starts with the prefix and is greater than the last one

@@ -10,7 +10,7 @@ use Rattle.tree.specs.Calls.{Outcome, refuses, leaves, SplitOutcome, refusesBot
 use Rattle.pool.specs.Post.{Meets}
 use Rattle.split.specs.Post.{MeetBoth}
 use Rattle.writer.specs.Post.{Writes}
-use Rattle.host.specs.Host.{given, over, Returns, Changes, flagged, Inserts, Splits, Written}
+use Rattle.host.specs.Host.{given, GivesTwo, over, Returns, Changes, flagged, Inserts, Splits, Written}
 
 over-none : (vs : List ℕ) → [] ≡ over vs []
 unfolding over
@@ -34,8 +34,8 @@ returns-none told e = record { number = e; values = over-none (told .values) }
 pub returns-one : (told : Told) {r a a′ : ℕ} → r ≡ told .number → a′ ≡ given told 0 a → Returns told r (a ∷ []) (a′ ∷ [])
 returns-one told {r} {a} e f = record { number = e; values = rw f (over-one (told .values) a) }
 
-pub returns-two : (told : Told) {r a b a′ b′ : ℕ} → r ≡ told .number → a′ ≡ given told 0 a → b′ ≡ given told 1 b → Returns told r (a ∷ b ∷ []) (a′ ∷ b′ ∷ [])
-returns-two told {r} {a} {b} e f g = record { number = e; values = rw (f, g) (over-two (told .values) a b) }
+pub returns-two : (told : Told) {r a b a′ b′ : ℕ} → r ≡ told .number → GivesTwo told a b a′ b′ → Returns told r (a ∷ b ∷ []) (a′ ∷ b′ ∷ [])
+returns-two told {r} {a} {b} e g = record { number = e; values = rw (g .first, g .second) (over-two (told .values) a b) }
 
 -- What the call tells is what its definition says.
 pub returned : {told x : Told} {r : ℕ} {rs rs′ : List ℕ} → told ≡ x → Returns told r rs rs′ → Returns x r rs rs′

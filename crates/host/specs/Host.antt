@@ -19,6 +19,11 @@ use Rattle.walk.specs.Walks.{stepOf}
 abbrev pub given : Told → (i kept : ℕ) → ℕ
 given told i kept = getD (told .values) i kept
 
+-- Of two results the one holds the first value told, the other the second; each keeps what it held where there is none.
+pub record GivesTwo (told : Told) (a b a′ b′ : ℕ) : Type 0 where
+  pub first : a′ ≡ given told 0 a
+  pub second : b′ ≡ given told 1 b
+
 -- The values written over the first results; a result that no value is told for stays.
 unfoldable pub over : (values results : List ℕ) → List ℕ
 over [] rs = rs

@@ -1,36 +1,50 @@
 // The store for a C program: one exported function a call. Each hands its call's answer on as document 01's number, and the
-// values besides through the results that the caller lends. `include/yarnhollow.h` is what a C program reads.
+// values besides through the results that the caller lends. `include/yarnhollow.h` is what a C program reads. A stored number
+// is a `RuleNo` inside; only the edge to C has 32 bits.
 ghost use mathlib.Core.Path.{_≡_};
 ghost use mathlib.Core.List.{[], _∷_};
-ghost use Rattle.tree.specs.Calls.{makeCall, clearCall, getCall, insertCall, removeCall, longestCall, sharedCall, splitCall, countsCall, readCall};
+ghost use Rattle.tree.specs.Calls.{makeCall, clearCall, getCall, insertCall, removeCall, longestCall, sharedCall};
+ghost use Rattle.tree.specs.Calls.{splitCall, countsCall, readCall};
 ghost use Rattle.pool.specs.Pool.{slotsOf, slotsIn, poolTree};
 ghost use Rattle.host.specs.Host.{Returns, Changes, Inserts, Splits, lastGiven, NextGiven, Written};
 ghost use Rattle.host.specs.Resumed.{Resumes};
 use tree::RuleNo;
 use walk::Walk;
 
-mod values;
+mod results;
 
 #[no_mangle]
 pub extern "C" fn yarnhollow_make(labels: &mut [u8], words: &mut [u32]) -> u32
-    ensures { λ r. ⌜ Changes (makeCall (slotsOf (now (words .entry)) (now (labels .entry)))) r [] [] (now (words .entry)) (now (labels .entry)) (now (words .exit)) (now (labels .exit)) ⌝ }
+    ensures { λ r. do
+      let ws = now (words .entry)
+      let bs = now (labels .entry)
+      let vs = now (words .exit)
+      let cs = now (labels .exit)
+      ⌜ Changes (makeCall (slotsOf ws bs)) r [] [] ws bs vs cs ⌝ }
 {
     pool::make(labels, words).number()
 }
 
 #[no_mangle]
 pub extern "C" fn yarnhollow_clear(labels: &mut [u8], words: &mut [u32]) -> u32
-    ensures { λ r. ⌜ Changes (clearCall (poolTree (now (words .entry)) (now (labels .entry)))) r [] [] (now (words .entry)) (now (labels .entry)) (now (words .exit)) (now (labels .exit)) ⌝ }
+    ensures { λ r. do
+      let ws = now (words .entry)
+      let bs = now (labels .entry)
+      let vs = now (words .exit)
+      let cs = now (labels .exit)
+      ⌜ Changes (clearCall (poolTree ws bs)) r [] [] ws bs vs cs ⌝ }
 {
     pool::clear(labels, words).number()
 }
 
 #[no_mangle]
 pub extern "C" fn yarnhollow_get(labels: &[u8], words: &[u32], key: &[u8], number: &mut u32) -> u32
-    ensures { λ r. ⌜ Returns (getCall (poolTree (now (words .entry)) (now (labels .entry))) (now (key .entry))) r (now (number .entry) ∷ []) (now (number .exit) ∷ []) ⌝ }
+    ensures { λ r. do
+      let t = poolTree (now (words .entry)) (now (labels .entry))
+      ⌜ Returns (getCall t (now (key .entry))) r (now (number .entry) ∷ []) (now (number .exit) ∷ []) ⌝ }
 {
     let answer = search::get(labels, words, key);
-    *number = values::got_number(answer, *number);
+    results::store_got(answer, number);
     answer.number()
 }
 
@@ -43,11 +57,18 @@ pub extern "C" fn yarnhollow_insert(
     had_old: &mut u32,
     old: &mut u32,
 ) -> u32
-    ensures { λ r. ⌜ Inserts (insertCall (poolTree (now (words .entry)) (now (labels .entry))) (slotsIn (now (labels .entry))) (now (key .entry)) number) r (now («had_old» .entry) ∷ now (old .entry) ∷ []) (now («had_old» .exit) ∷ now (old .exit) ∷ []) (now (words .entry)) (now (labels .entry)) (now (words .exit)) (now (labels .exit)) ⌝ }
+    ensures { λ r. do
+      let ws = now (words .entry)
+      let bs = now (labels .entry)
+      let vs = now (words .exit)
+      let cs = now (labels .exit)
+      let call = insertCall (poolTree ws bs) (slotsIn bs) (now (key .entry)) number
+      let was = now («had_old» .entry) ∷ now (old .entry) ∷ []
+      let is = now («had_old» .exit) ∷ now (old .exit) ∷ []
+      ⌜ Inserts call r was is ws bs vs cs ⌝ }
 {
     let answer = insert::insert(labels, words, key, RuleNo(number));
-    *had_old = values::had_old(answer, *had_old);
-    *old = values::old_number(answer, *old);
+    results::store_inserted(answer, had_old, old);
     answer.number()
 }
 
@@ -58,10 +79,16 @@ pub extern "C" fn yarnhollow_remove(
     key: &[u8],
     old: &mut u32,
 ) -> u32
-    ensures { λ r. ⌜ Changes (removeCall (poolTree (now (words .entry)) (now (labels .entry))) (now (key .entry))) r (now (old .entry) ∷ []) (now (old .exit) ∷ []) (now (words .entry)) (now (labels .entry)) (now (words .exit)) (now (labels .exit)) ⌝ }
+    ensures { λ r. do
+      let ws = now (words .entry)
+      let bs = now (labels .entry)
+      let vs = now (words .exit)
+      let cs = now (labels .exit)
+      let call = removeCall (poolTree ws bs) (now (key .entry))
+      ⌜ Changes call r (now (old .entry) ∷ []) (now (old .exit) ∷ []) ws bs vs cs ⌝ }
 {
     let answer = remove::remove(labels, words, key);
-    *old = values::got_number(answer, *old);
+    results::store_got(answer, old);
     answer.number()
 }
 
@@ -70,14 +97,17 @@ pub extern "C" fn yarnhollow_longest(
     labels: &[u8],
     words: &[u32],
     query: &[u8],
-    length: &mut usize,
+    prefix_length: &mut usize,
     number: &mut u32,
 ) -> u32
-    ensures { λ r. ⌜ Returns (longestCall (poolTree (now (words .entry)) (now (labels .entry))) (now (query .entry))) r (now (length .entry) ∷ now (number .entry) ∷ []) (now (length .exit) ∷ now (number .exit) ∷ []) ⌝ }
+    ensures { λ r. do
+      let t = poolTree (now (words .entry)) (now (labels .entry))
+      let was = now («prefix_length» .entry) ∷ now (number .entry) ∷ []
+      let is = now («prefix_length» .exit) ∷ now (number .exit) ∷ []
+      ⌜ Returns (longestCall t (now (query .entry))) r was is ⌝ }
 {
     let answer = search::longest(labels, words, query);
-    *length = values::stored_length(answer, *length);
-    *number = values::stored_number(answer, *number);
+    results::store_prefixed(answer, prefix_length, number);
     answer.number()
 }
 
@@ -86,12 +116,16 @@ pub extern "C" fn yarnhollow_shared(
     labels: &[u8],
     words: &[u32],
     query: &[u8],
-    length: &mut usize,
+    shared_length: &mut usize,
 ) -> u32
-    ensures { λ r. ⌜ Returns (sharedCall (poolTree (now (words .entry)) (now (labels .entry))) (now (query .entry))) r (now (length .entry) ∷ []) (now (length .exit) ∷ []) ⌝ }
+    ensures { λ r. do
+      let t = poolTree (now (words .entry)) (now (labels .entry))
+      let was = now («shared_length» .entry) ∷ []
+      let is = now («shared_length» .exit) ∷ []
+      ⌜ Returns (sharedCall t (now (query .entry))) r was is ⌝ }
 {
     let answer = search::shared(labels, words, query);
-    *length = values::shared_length(answer, *length);
+    results::store_sharing(answer, shared_length);
     answer.number()
 }
 
@@ -127,12 +161,16 @@ pub extern "C" fn yarnhollow_next(
     key_length: &mut usize,
     number: &mut u32,
 ) -> u32
-    ensures { λ r. ⌜ NextGiven (poolTree (now (words .entry)) (now (labels .entry))) (now (prefix .entry)) (lastGiven begun (now (last .entry))) r (now («key_length» .entry) ∷ now (number .entry) ∷ []) (now («key_length» .exit) ∷ now (number .exit) ∷ []) (now (out .entry)) (now (out .exit)) ⌝ }
+    ensures { λ r. do
+      let t = poolTree (now (words .entry)) (now (labels .entry))
+      let l = lastGiven begun (now (last .entry))
+      let was = now («key_length» .entry) ∷ now (number .entry) ∷ []
+      let is = now («key_length» .exit) ∷ now (number .exit) ∷ []
+      ⌜ NextGiven t (now (prefix .entry)) l r was is (now (out .entry)) (now (out .exit)) ⌝ }
 {
     let step = resumed(prefix, last, begun).step(labels, words, out);
     let answer = step.answer;
-    *key_length = values::key_length(answer, *key_length);
-    *number = values::key_number(answer, *number);
+    results::store_stepped(answer, key_length, number);
     answer.number()
 }
 
@@ -144,7 +182,17 @@ pub extern "C" fn yarnhollow_split(
     labels2: &mut [u8],
     words2: &mut [u32],
 ) -> u32
-    ensures { λ r. ⌜ Splits (splitCall (poolTree (now (words .entry)) (now (labels .entry))) (slotsOf (now (words2 .entry)) (now (labels2 .entry))) (now (prefix .entry))) r (now (words .entry)) (now (labels .entry)) (now (words2 .entry)) (now (labels2 .entry)) (now (words .exit)) (now (labels .exit)) (now (words2 .exit)) (now (labels2 .exit)) ⌝ }
+    ensures { λ r. do
+      let ws = now (words .entry)
+      let bs = now (labels .entry)
+      let ws₂ = now (words2 .entry)
+      let bs₂ = now (labels2 .entry)
+      let vs = now (words .exit)
+      let cs = now (labels .exit)
+      let vs₂ = now (words2 .exit)
+      let cs₂ = now (labels2 .exit)
+      let call = splitCall (poolTree ws bs) (slotsOf ws₂ bs₂) (now (prefix .entry))
+      ⌜ Splits call r ws bs ws₂ bs₂ vs cs vs₂ cs₂ ⌝ }
 {
     split::split(labels, words, prefix, labels2, words2).number()
 }
@@ -156,11 +204,14 @@ pub extern "C" fn yarnhollow_counts(
     keys: &mut usize,
     nodes: &mut usize,
 ) -> u32
-    ensures { λ r. ⌜ Returns (countsCall (poolTree (now (words .entry)) (now (labels .entry)))) r (now (keys .entry) ∷ now (nodes .entry) ∷ []) (now (keys .exit) ∷ now (nodes .exit) ∷ []) ⌝ }
+    ensures { λ r. do
+      let t = poolTree (now (words .entry)) (now (labels .entry))
+      let was = now (keys .entry) ∷ now (nodes .entry) ∷ []
+      let is = now (keys .exit) ∷ now (nodes .exit) ∷ []
+      ⌜ Returns (countsCall t) r was is ⌝ }
 {
     let answer = pool::counts(labels, words);
-    *keys = values::keys(answer, *keys);
-    *nodes = values::nodes(answer, *nodes);
+    results::store_counted(answer, keys, nodes);
     answer.number()
 }
 
@@ -173,11 +224,14 @@ pub extern "C" fn yarnhollow_write(
     tree_length: &mut usize,
     numbers_length: &mut usize,
 ) -> u32
-    ensures { λ r. ⌜ Written (poolTree (now (words .entry)) (now (labels .entry))) r (now («tree_length» .entry) ∷ now («numbers_length» .entry) ∷ []) (now («tree_length» .exit) ∷ now («numbers_length» .exit) ∷ []) (now (tree .entry)) (now (numbers .entry)) (now (tree .exit)) (now (numbers .exit)) ⌝ }
+    ensures { λ r. do
+      let t = poolTree (now (words .entry)) (now (labels .entry))
+      let was = now («tree_length» .entry) ∷ now («numbers_length» .entry) ∷ []
+      let is = now («tree_length» .exit) ∷ now («numbers_length» .exit) ∷ []
+      ⌜ Written t r was is (now (tree .entry)) (now (numbers .entry)) (now (tree .exit)) (now (numbers .exit)) ⌝ }
 {
     let answer = writer::write(labels, words, tree, numbers);
-    *tree_length = values::tree_length(answer, *tree_length);
-    *numbers_length = values::numbers_length(answer, *numbers_length);
+    results::store_written(answer, tree_length, numbers_length);
     answer.number()
 }
 
@@ -189,9 +243,15 @@ pub extern "C" fn yarnhollow_read(
     numbers: &[u32],
     offset: &mut usize,
 ) -> u32
-    ensures { λ r. ⌜ Changes (readCall (slotsOf (now (words .entry)) (now (labels .entry))) (now (tree .entry)) (now (numbers .entry))) r (now (offset .entry) ∷ []) (now (offset .exit) ∷ []) (now (words .entry)) (now (labels .entry)) (now (words .exit)) (now (labels .exit)) ⌝ }
+    ensures { λ r. do
+      let ws = now (words .entry)
+      let bs = now (labels .entry)
+      let vs = now (words .exit)
+      let cs = now (labels .exit)
+      let call = readCall (slotsOf ws bs) (now (tree .entry)) (now (numbers .entry))
+      ⌜ Changes call r (now (offset .entry) ∷ []) (now (offset .exit) ∷ []) ws bs vs cs ⌝ }
 {
     let answer = reader::read(labels, words, tree, numbers);
-    *offset = values::fault_offset(answer, *offset);
+    results::store_loaded(answer, offset);
     answer.number()
 }

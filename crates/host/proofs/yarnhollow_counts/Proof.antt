@@ -6,7 +6,10 @@ use Rattle.host.proofs.yarnhollow_counts.Statement.{statement}
 use Rattle.host.proofs.yarnhollow_counts.Tie as tie
 
 returns : tie.Need-returns
-returns c = returned (c .before .before .before .before .before .counts .ensures) (returns-two (countedTold (c .before .before .before .before .before .counts .result)) (c .number .ensures) (c .before .before .before .keys .ensures) (c .before .nodes .ensures))
+returns c =
+    let stored = c .before in
+    let called = stored .before .before .before in
+    returned (called .counts .ensures) (returns-two (countedTold (called .counts .result)) (c .number .ensures) (stored .store-counted .ensures))
 
 pub yarnhollow-counts-spec : {M : Type 1} → statement M
-yarnhollow-counts-spec = tie.close (tie.spec (λ c κs. search needs) (λ c κs. search needs) (λ c κs. search needs) (λ c κs. search needs) returns)
+yarnhollow-counts-spec = tie.close (tie.spec (λ c κs. search needs) (λ c κs. search needs) (λ c κs. search needs) returns)

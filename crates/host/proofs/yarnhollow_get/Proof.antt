@@ -6,7 +6,10 @@ use Rattle.host.proofs.yarnhollow_get.Statement.{statement}
 use Rattle.host.proofs.yarnhollow_get.Tie as tie
 
 returns : tie.Need-returns
-returns c = returned (c .before .before .before .get .ensures) (returns-one (gotTold (c .before .before .before .get .result)) (c .number .ensures) (c .before .got-number .ensures))
+returns c =
+    let stored = c .before in
+    let called = stored .before .before in
+    returned (called .get .ensures) (returns-one (gotTold (called .get .result)) (c .number .ensures) (stored .store-got .ensures))
 
 pub yarnhollow-get-spec : {M : Type 1} → statement M
 yarnhollow-get-spec = tie.close (tie.spec (λ c κs. search needs) (λ c κs. search needs) (λ c κs. search needs) returns)

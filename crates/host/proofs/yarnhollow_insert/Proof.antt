@@ -7,10 +7,14 @@ use Rattle.host.proofs.yarnhollow_insert.Statement.{statement}
 use Rattle.host.proofs.yarnhollow_insert.Tie as tie
 
 returns : tie.Need-returns
-returns c = inserts (insertedTold (c .before .before .before .before .before .before .before .before .before .insert .result)) _ (c .before .before .before .before .before .before .before .before .before .insert .ensures) (returns-two (flagged (insertedTold (c .before .before .before .before .before .before .before .before .before .insert .result))) (c .number .ensures) (c .before .before .before .had-old .ensures) (c .before .old-number .ensures))
+returns c =
+    let stored = c .before in
+    let handed-back = stored .before .before .before in
+    let called = handed-back .before .before .before .before in
+    let told = insertedTold (called .insert .result) in
+    inserts told _ (called .insert .ensures) (returns-two (flagged told) (c .number .ensures) (stored .store-inserted .ensures))
 
 pub yarnhollow-insert-spec : {M : Type 1} → statement M
 yarnhollow-insert-spec =
     tie.close
-    (tie.spec (λ c κs. search needs) (λ c κs. search needs) (λ c κs. search needs) (λ c κs. search needs) (λ c. search needs) (λ c. search needs)
-    returns)
+    (tie.spec (λ c κs. search needs) (λ c κs. search needs) (λ c κs. search needs) (λ c. search needs) (λ c. search needs) returns)

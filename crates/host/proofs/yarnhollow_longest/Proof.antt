@@ -6,7 +6,10 @@ use Rattle.host.proofs.yarnhollow_longest.Statement.{statement}
 use Rattle.host.proofs.yarnhollow_longest.Tie as tie
 
 returns : tie.Need-returns
-returns c = returned (c .before .before .before .before .before .longest .ensures) (returns-two (prefixedTold (c .before .before .before .before .before .longest .result)) (c .number .ensures) (c .before .before .before .stored-length .ensures) (c .before .stored-number .ensures))
+returns c =
+    let stored = c .before in
+    let called = stored .before .before .before in
+    returned (called .longest .ensures) (returns-two (prefixedTold (called .longest .result)) (c .number .ensures) (stored .store-prefixed .ensures))
 
 pub yarnhollow-longest-spec : {M : Type 1} → statement M
-yarnhollow-longest-spec = tie.close (tie.spec (λ c κs. search needs) (λ c κs. search needs) (λ c κs. search needs) (λ c κs. search needs) returns)
+yarnhollow-longest-spec = tie.close (tie.spec (λ c κs. search needs) (λ c κs. search needs) (λ c κs. search needs) returns)

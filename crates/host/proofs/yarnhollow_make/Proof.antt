@@ -6,7 +6,9 @@ use Rattle.host.proofs.yarnhollow_make.Statement.{statement}
 use Rattle.host.proofs.yarnhollow_make.Tie as tie
 
 returns : tie.Need-returns
-returns c = changes _ (c .before .before .before .before .before .make .ensures) (returns-none (emptiedTold (c .before .before .before .before .before .make .result)) (c .number .ensures))
+returns c =
+    let called = c .before .before .before .before .before in
+    changes _ (called .make .ensures) (returns-none (emptiedTold (called .make .result)) (c .number .ensures))
 
 pub yarnhollow-make-spec : {M : Type 1} → statement M
 yarnhollow-make-spec = tie.close (tie.spec (λ c κs. search needs) (λ c κs. search needs) (λ c. search needs) (λ c. search needs) returns)

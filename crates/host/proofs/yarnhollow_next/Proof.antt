@@ -7,10 +7,16 @@ use Rattle.host.proofs.yarnhollow_next.Statement.{statement}
 use Rattle.host.proofs.yarnhollow_next.Tie as tie
 
 returns : tie.Need-returns
-returns c = next-given (c .before .before .before .before .before .before .before .before .before .resumed .ensures) (c .before .before .before .before .before .before .before .step .ensures) (returns-two (steppedTold (c .before .before .before .before .before .before .before .step .result .answer)) (c .number .ensures) (c .before .before .before .key-length .ensures) (c .before .key-number .ensures))
+returns c =
+    let stored = c .before in
+    let stepped = stored .before .before .before .before .before in
+    let resumed = stepped .before .before in
+    next-given
+    (resumed .resumed .ensures)
+    (stepped .step .ensures)
+    (returns-two (steppedTold (stepped .step .result .answer)) (c .number .ensures) (stored .store-stepped .ensures))
 
 pub yarnhollow-next-spec : {M : Type 1} → statement M
 yarnhollow-next-spec =
     tie.close
-    (tie.spec (λ c κs. search needs) (λ c κs. search needs) (λ c κs. search needs) (λ c κs. search needs) (λ c κs. search needs) (λ c. search needs)
-    returns)
+    (tie.spec (λ c κs. search needs) (λ c κs. search needs) (λ c κs. search needs) (λ c κs. search needs) (λ c. search needs) returns)

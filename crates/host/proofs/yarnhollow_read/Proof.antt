@@ -6,7 +6,11 @@ use Rattle.host.proofs.yarnhollow_read.Statement.{statement}
 use Rattle.host.proofs.yarnhollow_read.Tie as tie
 
 returns : tie.Need-returns
-returns c = changes _ (c .before .before .before .before .before .before .before .read .ensures) (returns-one (loadedTold (c .before .before .before .before .before .before .before .read .result)) (c .number .ensures) (c .before .fault-offset .ensures))
+returns c =
+    let stored = c .before in
+    let handed-back = stored .before .before in
+    let called = handed-back .before .before .before .before in
+    changes _ (called .read .ensures) (returns-one (loadedTold (called .read .result)) (c .number .ensures) (stored .store-loaded .ensures))
 
 pub yarnhollow-read-spec : {M : Type 1} → statement M
 yarnhollow-read-spec =

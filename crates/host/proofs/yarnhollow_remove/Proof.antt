@@ -6,7 +6,11 @@ use Rattle.host.proofs.yarnhollow_remove.Statement.{statement}
 use Rattle.host.proofs.yarnhollow_remove.Tie as tie
 
 returns : tie.Need-returns
-returns c = changes _ (c .before .before .before .before .before .before .before .remove .ensures) (returns-one (gotTold (c .before .before .before .before .before .before .before .remove .result)) (c .number .ensures) (c .before .got-number .ensures))
+returns c =
+    let stored = c .before in
+    let handed-back = stored .before .before in
+    let called = handed-back .before .before .before .before in
+    changes _ (called .remove .ensures) (returns-one (gotTold (called .remove .result)) (c .number .ensures) (stored .store-got .ensures))
 
 pub yarnhollow-remove-spec : {M : Type 1} → statement M
 yarnhollow-remove-spec =

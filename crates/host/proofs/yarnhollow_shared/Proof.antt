@@ -6,7 +6,10 @@ use Rattle.host.proofs.yarnhollow_shared.Statement.{statement}
 use Rattle.host.proofs.yarnhollow_shared.Tie as tie
 
 returns : tie.Need-returns
-returns c = returned (c .before .before .before .shared .ensures) (returns-one (sharingTold (c .before .before .before .shared .result)) (c .number .ensures) (c .before .shared-length .ensures))
+returns c =
+    let stored = c .before in
+    let called = stored .before .before in
+    returned (called .shared .ensures) (returns-one (sharingTold (called .shared .result)) (c .number .ensures) (stored .store-sharing .ensures))
 
 pub yarnhollow-shared-spec : {M : Type 1} → statement M
 yarnhollow-shared-spec = tie.close (tie.spec (λ c κs. search needs) (λ c κs. search needs) (λ c κs. search needs) returns)

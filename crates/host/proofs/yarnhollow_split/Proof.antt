@@ -6,7 +6,10 @@ use Rattle.host.proofs.yarnhollow_split.Statement.{statement}
 use Rattle.host.proofs.yarnhollow_split.Tie as tie
 
 returns : tie.Need-returns
-returns c = splits _ (c .before .before .before .before .before .before .before .before .before .split .ensures) (returns-none (dividedTold (c .before .before .before .before .before .before .before .before .before .split .result)) (c .number .ensures))
+returns c =
+    let first-back = c .before .before .before .before .before in
+    let called = first-back .before .before .before .before in
+    splits _ (called .split .ensures) (returns-none (dividedTold (called .split .result)) (c .number .ensures))
 
 pub yarnhollow-split-spec : {M : Type 1} → statement M
 yarnhollow-split-spec =

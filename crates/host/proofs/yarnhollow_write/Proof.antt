@@ -6,10 +6,13 @@ use Rattle.host.proofs.yarnhollow_write.Statement.{statement}
 use Rattle.host.proofs.yarnhollow_write.Tie as tie
 
 returns : tie.Need-returns
-returns c = written (c .before .before .before .before .before .before .before .before .before .write .ensures) (returns-two (writtenTold (c .before .before .before .before .before .before .before .before .before .write .result)) (c .number .ensures) (c .before .before .before .tree-length .ensures) (c .before .numbers-length .ensures))
+returns c =
+    let stored = c .before in
+    let handed-back = stored .before .before .before in
+    let called = handed-back .before .before .before .before in
+    written (called .write .ensures) (returns-two (writtenTold (called .write .result)) (c .number .ensures) (stored .store-written .ensures))
 
 pub yarnhollow-write-spec : {M : Type 1} → statement M
 yarnhollow-write-spec =
     tie.close
-    (tie.spec (λ c κs. search needs) (λ c κs. search needs) (λ c κs. search needs) (λ c κs. search needs) (λ c. search needs) (λ c. search needs)
-    returns)
+    (tie.spec (λ c κs. search needs) (λ c κs. search needs) (λ c κs. search needs) (λ c. search needs) (λ c. search needs) returns)
