@@ -13,28 +13,35 @@
  * may write what it was lent, nor read what it may write.
  *
  * A slice is a pointer, then a length: of bytes in bytes, of words and numbers in elements of 4 bytes. A slice of length 0
- * may have any pointer, null too. Every other pointer, a result's too, points to that many elements, aligned as C wants.
- * What a call may write (a pointer without `const`) must not overlap anything else that is lent to the same call; what it
- * only reads may overlap what it only reads. That these hold is the caller's part: no call can test it.
+ * may have any pointer, null too. Every other pointer points to that many elements, aligned as C wants. A result is a pointer
+ * to one value; it may not be null, also where the call will not store it. What a call may write (a pointer without `const`)
+ * must not overlap anything else that is lent to the same call; what it only reads may overlap what it only reads. That these
+ * hold is the caller's part: no call can test it.
  *
  *
  * A POOL
  *
- * A pool of S slots, S from 1 to 16,384, is a slice of YARNHOLLOW_LABELS(S) bytes and one of YARNHOLLOW_WORDS(S) words. It
- * holds one tree of at most S nodes. `yarnhollow_make` turns any two slices of these lengths into an empty pool. A call that
- * goes by what a pool holds tests the whole pool first, so that one that was damaged, or never made, is refused with 1 and
- * does no harm. Of a pool that is only filled (make, read, the second pool of split) the lengths are tested and nothing else.
- * Do not write a pool's bytes or words by other means. A pool may be copied, as two blocks of memory.
+ * A pool of S slots, S from 1 to 16,384, is a slice of YARNHOLLOW_LABELS(S) bytes and one of YARNHOLLOW_WORDS(S) words of
+ * four bytes each. It holds one tree of at most S nodes. `yarnhollow_make` turns any two slices of these lengths into an empty
+ * pool. Do not write a pool's bytes or words by other means. A pool may be copied, as two blocks of memory.
+ *
+ * A call that goes by what a pool holds tests the whole pool first, so that one that was damaged, or never made, is refused
+ * with 1 and does no harm. Of a pool that is only filled (make, read, the second pool of split) the lengths are tested and
+ * nothing else.
+ *
+ * That test is most of what a call costs: it looks at every node of the tree, 3 to 7 ns each where it was measured, so that a
+ * lookup takes half a microsecond among 100 nodes and about 100 microseconds among 16,000. Insert, remove and split cost two
+ * to three tests, since they move the nodes behind the place.
  *
  *
  * WHAT A CALL RETURNS
  *
- * A number, YARNHOLLOW_DONE or one of the refusals below. With any number but 0 no lent slice has changed, and a result is
- * written only where the table says so; else it keeps the value that it came with.
+ * A number, YARNHOLLOW_DONE or one of the refusals below. With any number but 0 no lent slice has changed. A result is stored
+ * only where the table says so; else its memory is not touched. No call reads a result.
  *
- *    no.  meaning                                                    results written
- *     0   done                                                       all that the call names (`old` of insert: see there)
- *     1   not a pool: wrong lengths, or it does not hold a tree      none
+ *    no.  meaning                                                    results stored
+ *     0   done                                                       all that the call names (insert and read: see there)
+ *     1   not a pool: wrong lengths, or damaged                      none
  *     2   a key, query, prefix or image path over 4,096 bytes        none
  *     3   not found; the walk has ended                              none
  *     4   no room: the tree needs more nodes than there are slots    none
@@ -52,13 +59,37 @@
  * Where several refusals fit, the first in the order 1, 2, 3, 4, 14, 5 is given; read has an order of its own, the order of
  * the image. Each is given exactly in its case.
  *
+ * 1 never speaks of a key or an image. Either the lengths are not YARNHOLLOW_LABELS(S) and YARNHOLLOW_WORDS(S) for one S,
+ * which is an error of the calling program; or the memory does not hold what the store left there: no pool was made in it, or
+ * something else has written into it. The store gets nothing out of such a pool any more: make it anew, and fill it again.
+ *
+ *
+ * THE IMAGE
+ *
+ * A tree is written as a run of bytes and a list of numbers. The run has a record for each node, the root first, and behind
+ * each node its children, each with all that is below it:
+ *
+ *    byte 0      flags: 1 and 2 it has a number, 4 and 8 it has a child, 16 and 32 it has a younger sibling
+ *    byte 1      label length, 0 for the root, 1 to 255 for every other node
+ *    bytes 2, 3  level, the high byte first: 0 for the root, and one more than its parent's for every other node
+ *    byte 4 ..   the label
+ *
+ * Of each pair of flag bits both are set or neither; bits 64 and 128 are zero. The children of a node ascend by the first byte
+ * of their labels. The numbers are those of the nodes that have one, in the same order, each a `uint32_t` as the machine has
+ * it: a program that stores or sends them settles the order of their bytes itself. So ab = 1 and ac = 2 are the numbers 1, 2
+ * and these 19 bytes:
+ *
+ *    0C 00 00 00   0C 01 00 01 61   33 01 00 02 62   03 01 00 02 63
+ *
  *
  * STACK
  *
- * Read and write call themselves, level by level, and a key's bytes can stand on up to 4,096 levels. Measured at 4,096
- * levels: read took 1,114,375 bytes of stack, write 721,100. Call read with 2 MiB of stack left and write with 1 MiB; the
- * usual 8 MiB of a thread are enough for both. A thread with less must not read an image from outside: no call tests the
- * stack. `yarnhollow_next` took 23,851 bytes; the other calls take a few hundred.
+ * Read and write call themselves, level by level, and a key's bytes can stand on up to 4,096 levels. Measured at 4,096 levels:
+ * read took 1,114,400 bytes of stack, write 721,200. What read takes goes by the image and not by the size of the pool, which
+ * counts last: a read that was refused for a pool of one slot had taken 852,300. Call read with 2 MiB of stack left and write
+ * with 1 MiB; the usual 8 MiB of a thread are enough for both. A thread with less must not read an image from outside: no call
+ * tests the stack. `yarnhollow_next` took 20,800 bytes, insert of a key of 4,096 bytes 2,200, every other call at most 400.
+ * What the loader may take at the first call of memcpy and memset is not counted.
  */
 #ifndef YARNHOLLOW_H
 #define YARNHOLLOW_H
@@ -70,7 +101,7 @@
 extern "C" {
 #endif
 
-/* The lengths of a pool of `slots` slots: label bytes, and words. */
+/* The lengths of a pool of `slots` slots: label bytes, and words of four bytes (elements, not bytes). */
 #define YARNHOLLOW_LABELS(slots) ((size_t)255 * (slots))
 #define YARNHOLLOW_WORDS(slots) ((size_t)6 * (slots) + 8)
 
@@ -98,7 +129,7 @@ enum yarnhollow_number {
 
 /*
  * Makes an empty pool of two slices, whatever they held; only their lengths are tested.
- * Returns 0 or 1.
+ * Returns 0, or 1 for wrong lengths.
  */
 uint32_t yarnhollow_make(uint8_t *labels, size_t labels_len, uint32_t *words, size_t words_len);
 
@@ -117,7 +148,7 @@ uint32_t yarnhollow_get(const uint8_t *labels, size_t labels_len, const uint32_t
 
 /*
  * Stores a number at a key, in place of the old one, if there is one. With 0, `had_old` is 1 and `old` the old number, or
- * `had_old` is 0 and `old` keeps its value.
+ * `had_old` is 0 and `old` is not stored.
  * Returns 0, 1, 2 or 4.
  */
 uint32_t yarnhollow_insert(uint8_t *labels, size_t labels_len, uint32_t *words, size_t words_len,
@@ -147,11 +178,27 @@ uint32_t yarnhollow_shared(const uint8_t *labels, size_t labels_len, const uint3
 /*
  * A step of the walk under a prefix: the smallest stored key that starts with the prefix and is greater than the last one
  * given, with its number. Keys are ordered byte by byte, and a key comes before its own extensions. The walk's state is the
- * caller's: `begun` is 0 before the first step, and then `last` is not looked at; with any other `begun`, `last` is the key
- * that the step before gave. The pool may change between two steps: each speaks of the tree as it stands.
+ * caller's: `begun` is 0 before the first step, and then `last` is not looked at, whatever its length, over 4,096 bytes too;
+ * with any other `begun`, `last` is the key that the step before gave. The pool may change between two steps: each speaks of
+ * the tree as it stands.
  *
- * With 0 the key is at the front of `out`, of which the rest stays. With 5 `key_length` is the length that `out` needs;
- * YARNHOLLOW_KEY_MAX bytes are always enough. `out` must not overlap `last`: keep two buffers and swap them.
+ * With 0 the key is at the front of `out`, of which the rest stays. With 5 `key_length` is the length that `out` needs, and
+ * `number` is not stored; YARNHOLLOW_KEY_MAX bytes are always enough. `out` must not overlap `last`, so swap two buffers:
+ *
+ *    static uint8_t room[2][YARNHOLLOW_KEY_MAX];
+ *    size_t last_length = 0, key_length = 0;
+ *    uint32_t begun = 0, number = 0, returned;
+ *    int turn = 0;
+ *
+ *    while ((returned = yarnhollow_next(labels, labels_len, words, words_len, prefix, prefix_len, room[1 - turn], last_length,
+ *                                       begun, room[turn], sizeof room[turn], &key_length, &number)) == YARNHOLLOW_DONE) {
+ *        use(room[turn], key_length, number);
+ *        last_length = key_length;
+ *        begun = 1;
+ *        turn = 1 - turn;
+ *    }
+ *    // returned is YARNHOLLOW_NOT_FOUND where the walk has come to its end
+ *
  * Returns 0, 1, 2 (the prefix, or the last key, is over 4,096 bytes), 3 at the walk's end, or 5. Needs 32 KiB of stack.
  */
 uint32_t yarnhollow_next(const uint8_t *labels, size_t labels_len, const uint32_t *words, size_t words_len,
@@ -185,8 +232,8 @@ uint32_t yarnhollow_write(const uint8_t *labels, size_t labels_len, const uint32
 
 /*
  * Reads an image into a pool, whose old contents are given up: of it only the lengths are tested. The image is checked in
- * full before anything is written. With 0 `offset` keeps its value, as it does with 1, 2 and 4.
- * Returns 0, 1, 2, 4 or 6 to 13. Needs 2 MiB of stack.
+ * full before anything is written. `offset` is stored with 6 to 13 only, not with 0.
+ * Returns 0, 1 for wrong lengths, 2, 4 or 6 to 13. Needs 2 MiB of stack, however small the pool.
  */
 uint32_t yarnhollow_read(uint8_t *labels, size_t labels_len, uint32_t *words, size_t words_len,
                          const uint8_t *tree, size_t tree_len, const uint32_t *numbers, size_t numbers_len,
