@@ -6,12 +6,14 @@ use Prim.Native.Nat.{ℕ}
 use Rattle.tree.specs.Key.{Key}
 use Rattle.tree.specs.Tree.{Tree}
 use Rattle.tree.specs.Told.{Told}
-use Rattle.tree.specs.Calls.{Outcome, SplitOutcome, refusesBoth, leavesBoth}
-use Rattle.pool.specs.Pool.{poolTree}
+use Rattle.tree.specs.Calls.{Outcome, outcomeTold, SplitOutcome, bothTold}
+use Rattle.pool.specs.Lent.{Lent, treeIn}
+use Rattle.pool.specs.Post.{Does}
 use Rattle.pool.proofs.Decided.{outcome-decides}
+use Rattle.split.proofs.Decided.{both-decide}
 use Rattle.walk.specs.Walks.{stepOf}
 use Rattle.writer.proofs.Decided.{decided}
-use Rattle.host.specs.Host.{Returns, outcomeTold, Changes, Inserts, Splits, keyWritten, NextGiven, Written}
+use Rattle.host.specs.Host.{Returns, Changes, Inserts, Splits, keyWritten, NextGiven, Written}
 
 -- Two returns agree in the number and in each result.
 pub record Same (r s : ℕ) (xs ys : List ℕ) : Type 0 where
@@ -21,35 +23,43 @@ pub record Same (r s : ℕ) (xs ys : List ℕ) : Type 0 where
 pub returns-decided : {told : Told} {r s : ℕ} {rs xs ys : List ℕ} → Returns told r rs xs → Returns told s rs ys → Same r s xs ys
 returns-decided p q = record { number = p .number ∙ sym (q .number); values = p .values ∙ sym (q .values) }
 
--- A changing call: the tree left behind too
-module _ {ws bs vs cs us ds : List ℕ} {o : Outcome} {r s : ℕ} {rs xs ys : List ℕ} where
-  pub changes-decided : Changes o r rs xs ws bs vs cs → Changes o s rs ys ws bs us ds → Same r s xs ys × (poolTree vs cs ≡ poolTree us ds)
-  changes-decided p q = (returns-decided (p .returns) (q .returns), outcome-decides ws bs vs cs us ds (outcomeTold o) (outcomeTold o) o (p .left) (q .left) .tree)
+-- A changing call: the tree left behind too, and with any number but 0 every lent word and byte
+pub record SameLeft (r s : ℕ) (xs ys : List ℕ) (is is′ : Lent) : Type 0 where
+  pub returned : Same r s xs ys
+  pub tree : treeIn is ≡ treeIn is′
+  pub kept : ¬ (r ≡ 0) → is ≡ is′
 
-  pub inserts-decided : Inserts o r rs xs ws bs vs cs → Inserts o s rs ys ws bs us ds → Same r s xs ys × (poolTree vs cs ≡ poolTree us ds)
-  inserts-decided p q = (returns-decided (p .returns) (q .returns), outcome-decides ws bs vs cs us ds (outcomeTold o) (outcomeTold o) o (p .left) (q .left) .tree)
+left-decided : (o : Outcome) (was is is′ : Lent) {r s : ℕ} {xs ys : List ℕ} → Same r s xs ys → r ≡ outcomeTold o .number → Does o (outcomeTold o) was is → Does o (outcomeTold o) was is′
+    → SameLeft r s xs ys is is′
+left-decided o was is is′ e f p q =
+    let d = outcome-decides was is is′ (outcomeTold o) (outcomeTold o) o p q in
+    record { returned = e; tree = d .tree; kept = λ n. d .kept (λ z. n (f ∙ z)) }
 
--- Split: the number, and both trees
-pub record SameTrees (r s : ℕ) (vs cs vs₂ cs₂ us ds us₂ ds₂ : List ℕ) : Type 0 where
+module _ {was is is′ : Lent} {o : Outcome} {r s : ℕ} {rs xs ys : List ℕ} where
+  pub changes-decided : Changes o r rs xs was is → Changes o s rs ys was is′ → SameLeft r s xs ys is is′
+  changes-decided p q = left-decided o was is is′ (returns-decided (p .returns) (q .returns)) (p .returns .number) (p .left) (q .left)
+
+  pub inserts-decided : Inserts o r rs xs was is → Inserts o s rs ys was is′ → SameLeft r s xs ys is is′
+  inserts-decided p q = left-decided o was is is′ (returns-decided (p .returns) (q .returns)) (p .returns .number) (p .left) (q .left)
+
+-- Split: the number, and both trees; with any number but 0 every word and byte of both pools
+pub record SameTrees (r s : ℕ) (is is₂ is′ is₂′ : Lent) : Type 0 where
   pub number : r ≡ s
-  pub left : poolTree vs cs ≡ poolTree us ds
-  pub detached : poolTree vs₂ cs₂ ≡ poolTree us₂ ds₂
+  pub left : treeIn is ≡ treeIn is′
+  pub detached : treeIn is₂ ≡ treeIn is₂′
+  pub kept : ¬ (r ≡ 0) → is ≡ is′
+  pub kept₂ : ¬ (r ≡ 0) → is₂ ≡ is₂′
 
-pub splits-decided : {ws bs ws₂ bs₂ vs cs vs₂ cs₂ us ds us₂ ds₂ : List ℕ} {r s : ℕ} (o : SplitOutcome) → Splits o r ws bs ws₂ bs₂ vs cs vs₂ cs₂ → Splits o s ws bs ws₂ bs₂ us ds us₂ ds₂
-    → SameTrees r s vs cs vs₂ cs₂ us ds us₂ ds₂
-splits-decided (refusesBoth x) p q =
-    let a = p .left in
-    let b = q .left in
+pub splits-decided : {was was₂ is is₂ is′ is₂′ : Lent} {r s : ℕ} (o : SplitOutcome) → Splits o r was was₂ is is₂ → Splits o s was was₂ is′ is₂′ → SameTrees r s is is₂ is′ is₂′
+splits-decided {was} {was₂} {is} {is₂} {is′} {is₂′} o p q =
+    let d = both-decide was was₂ is is₂ is′ is₂′ (bothTold o) (bothTold o) o (p .left) (q .left) in
+    let f = p .returns .number in
     record {
-      number = p .returns .number ∙ sym (q .returns .number);
-      left = cc (a .words, a .labels, b .words, b .labels);
-      detached = cc (a .words₂, a .labels₂, b .words₂, b .labels₂);
-    }
-splits-decided (leavesBoth x d u) p q =
-    record {
-      number = p .returns .number ∙ sym (q .returns .number);
-      left = p .left .tree ∙ sym (q .left .tree);
-      detached = p .left .tree₂ ∙ sym (q .left .tree₂);
+      number = f ∙ sym (q .returns .number);
+      left = d .left;
+      detached = d .detached;
+      kept = λ n. d .kept (λ z. n (f ∙ z));
+      kept₂ = λ n. d .kept₂ (λ z. n (f ∙ z));
     }
 
 -- A walk's step: every byte of the output too

@@ -7,8 +7,9 @@ use lib.ListN.{getD}
 use Rattle.tree.specs.Tree.{Tree}
 use Rattle.tree.specs.Told.{Told}
 use Rattle.tree.specs.Calls.{Outcome, refuses, leaves, SplitOutcome, refusesBoth, leavesBoth}
-use Rattle.pool.specs.Post.{Meets}
-use Rattle.split.specs.Post.{MeetBoth}
+use Rattle.pool.specs.Lent.{Lent}
+use Rattle.pool.specs.Post.{Does}
+use Rattle.split.specs.Post.{DoesBoth}
 use Rattle.writer.specs.Post.{Writes}
 use Rattle.host.specs.Host.{given, GivesTwo, over, Returns, Changes, flagged, Inserts, Splits, Written}
 
@@ -41,23 +42,22 @@ returns-two told {r} {a} {b} e g = record { number = e; values = rw (g .first, g
 pub returned : {told x : Told} {r : ℕ} {rs rs′ : List ℕ} → told ≡ x → Returns told r rs rs′ → Returns x r rs rs′
 returned e h = rw e at h
 
-module _ {r : ℕ} {rs rs′ ws bs vs cs : List ℕ} where
-  pub changes : {told : Told} (o : Outcome) → Meets o told ws bs vs cs → Returns told r rs rs′ → Changes o r rs rs′ ws bs vs cs
+module _ {r : ℕ} {rs rs′ : List ℕ} {was is : Lent} where
+  pub changes : {told : Told} (o : Outcome) → Does o told was is → Returns told r rs rs′ → Changes o r rs rs′ was is
   changes (refuses x) m h = record { returns = returned (m .said) h; left = record { said = refl; words = m .words; labels = m .labels } }
-  changes (leaves x t) m h = record { returns = returned (m .said) h; left = record { said = refl; tree = m .tree; slots = m .slots } }
+  changes (leaves vs t) m h = record { returns = returned (m .said) h; left = record { said = refl; tree = m .tree; slots = m .slots } }
 
-  pub inserts : (told : Told) (o : Outcome) → Meets o told ws bs vs cs → Returns (flagged told) r rs rs′ → Inserts o r rs rs′ ws bs vs cs
+  pub inserts : (told : Told) (o : Outcome) → Does o told was is → Returns (flagged told) r rs rs′ → Inserts o r rs rs′ was is
   inserts told (refuses x) m h = record { returns = returned (ap flagged (m .said)) h; left = record { said = refl; words = m .words; labels = m .labels } }
-  inserts told (leaves x t) m h = record { returns = returned (ap flagged (m .said)) h; left = record { said = refl; tree = m .tree; slots = m .slots } }
+  inserts told (leaves vs t) m h = record { returns = returned (ap flagged (m .said)) h; left = record { said = refl; tree = m .tree; slots = m .slots } }
 
-pub splits : {told : Told} {r : ℕ} {ws bs ws₂ bs₂ vs cs vs₂ cs₂ : List ℕ} (o : SplitOutcome) → MeetBoth o told ws bs ws₂ bs₂ vs cs vs₂ cs₂ → Returns told r [] []
-    → Splits o r ws bs ws₂ bs₂ vs cs vs₂ cs₂
+pub splits : {told : Told} {r : ℕ} {was was₂ is is₂ : Lent} (o : SplitOutcome) → DoesBoth o told was was₂ is is₂ → Returns told r [] [] → Splits o r was was₂ is is₂
 splits (refusesBoth x) m h =
     record {
       returns = returned (m .said) h;
       left = record { said = refl; words = m .words; labels = m .labels; words₂ = m .words₂; labels₂ = m .labels₂ };
     }
-splits (leavesBoth x d u) m h =
+splits (leavesBoth d u) m h =
     record {
       returns = returned (m .said) h;
       left = record { said = refl; tree = m .tree; tree₂ = m .tree₂; slots = m .slots; slots₂ = m .slots₂ };

@@ -9,9 +9,10 @@ use Rattle.tree.specs.Key.{Key}
 use Rattle.tree.specs.Map.{Pair}
 use Rattle.tree.specs.Tree.{Tree}
 use Rattle.tree.specs.Told.{Told}
-use Rattle.tree.specs.Calls.{Outcome, refuses, leaves, SplitOutcome, refusesBoth, leavesBoth, stepCall, writeCall}
-use Rattle.pool.specs.Post.{Meets}
-use Rattle.split.specs.Post.{MeetBoth}
+use Rattle.tree.specs.Calls.{Outcome, outcomeTold, SplitOutcome, bothTold, stepCall, writeCall}
+use Rattle.pool.specs.Lent.{Lent}
+use Rattle.pool.specs.Post.{Does}
+use Rattle.split.specs.Post.{DoesBoth}
 use Rattle.writer.specs.Post.{front, Writes}
 use Rattle.walk.specs.Walks.{stepOf}
 
@@ -35,14 +36,10 @@ pub record Returns (told : Told) (r : ℕ) (results results′ : List ℕ) : Typ
   pub number : r ≡ told .number
   pub values : results′ ≡ over (told .values) results
 
-abbrev pub outcomeTold : Outcome → Told
-outcomeTold (refuses x) = x
-outcomeTold (leaves x t) = x
-
 -- A call that changes a pool also leaves the two lent slices as the call's outcome says.
-pub record Changes (o : Outcome) (r : ℕ) (results results′ ws bs vs cs : List ℕ) : Type 0 where
+pub record Changes (o : Outcome) (r : ℕ) (results results′ : List ℕ) (was is : Lent) : Type 0 where
   pub returns : Returns (outcomeTold o) r results results′
-  pub left : Meets o (outcomeTold o) ws bs vs cs
+  pub left : Does o (outcomeTold o) was is
 
 -- With 0, how many values are told goes before them: 1 or 0 says whether there was an old number.
 abbrev pub numbered : ℕ → List ℕ → List ℕ
@@ -52,17 +49,13 @@ numbered (suc n) vs = vs
 abbrev pub flagged : Told → Told
 flagged told = record { number = told .number; values = numbered (told .number) (told .values) }
 
-pub record Inserts (o : Outcome) (r : ℕ) (results results′ ws bs vs cs : List ℕ) : Type 0 where
+pub record Inserts (o : Outcome) (r : ℕ) (results results′ : List ℕ) (was is : Lent) : Type 0 where
   pub returns : Returns (flagged (outcomeTold o)) r results results′
-  pub left : Meets o (outcomeTold o) ws bs vs cs
+  pub left : Does o (outcomeTold o) was is
 
-abbrev pub bothTold : SplitOutcome → Told
-bothTold (refusesBoth x) = x
-bothTold (leavesBoth x d u) = x
-
-pub record Splits (o : SplitOutcome) (r : ℕ) (ws bs ws₂ bs₂ vs cs vs₂ cs₂ : List ℕ) : Type 0 where
+pub record Splits (o : SplitOutcome) (r : ℕ) (was was₂ is is₂ : Lent) : Type 0 where
   pub returns : Returns (bothTold o) r [] []
-  pub left : MeetBoth o (bothTold o) ws bs ws₂ bs₂ vs cs vs₂ cs₂
+  pub left : DoesBoth o (bothTold o) was was₂ is is₂
 
 -- The last key of a walk whose state is lent: none where `begun` is 0, whatever the slice holds
 unfoldable pub lastGiven : (begun : ℕ) → Key → Option Key

@@ -5,7 +5,7 @@ ghost use mathlib.Core.Path.{_≡_};
 ghost use mathlib.Core.List.{[], _∷_};
 ghost use Rattle.tree.specs.Calls.{makeCall, clearCall, getCall, insertCall, removeCall, longestCall, sharedCall};
 ghost use Rattle.tree.specs.Calls.{splitCall, countsCall, readCall};
-ghost use Rattle.pool.specs.Pool.{slotsOf, slotsIn, poolTree};
+ghost use Rattle.pool.specs.Lent.{before, after, treeIn, sizeIn, roomIn};
 ghost use Rattle.host.specs.Host.{Returns, Changes, Inserts, Splits, lastGiven, NextGiven, Written};
 ghost use Rattle.host.specs.Resumed.{Resumes};
 use tree::RuleNo;
@@ -16,11 +16,8 @@ mod results;
 #[no_mangle]
 pub extern "C" fn yarnhollow_make(labels: &mut [u8], words: &mut [u32]) -> u32
     ensures { λ r. do
-      let ws = now (words .entry)
-      let bs = now (labels .entry)
-      let vs = now (words .exit)
-      let cs = now (labels .exit)
-      ⌜ Changes (makeCall (slotsOf ws bs)) r [] [] ws bs vs cs ⌝ }
+      let was = before labels words
+      ⌜ Changes (makeCall (sizeIn was)) r [] [] was (after labels words) ⌝ }
 {
     pool::make(labels, words).number()
 }
@@ -28,11 +25,8 @@ pub extern "C" fn yarnhollow_make(labels: &mut [u8], words: &mut [u32]) -> u32
 #[no_mangle]
 pub extern "C" fn yarnhollow_clear(labels: &mut [u8], words: &mut [u32]) -> u32
     ensures { λ r. do
-      let ws = now (words .entry)
-      let bs = now (labels .entry)
-      let vs = now (words .exit)
-      let cs = now (labels .exit)
-      ⌜ Changes (clearCall (poolTree ws bs)) r [] [] ws bs vs cs ⌝ }
+      let was = before labels words
+      ⌜ Changes (clearCall (treeIn was)) r [] [] was (after labels words) ⌝ }
 {
     pool::clear(labels, words).number()
 }
@@ -40,7 +34,7 @@ pub extern "C" fn yarnhollow_clear(labels: &mut [u8], words: &mut [u32]) -> u32
 #[no_mangle]
 pub extern "C" fn yarnhollow_get(labels: &[u8], words: &[u32], key: &[u8], number: &mut u32) -> u32
     ensures { λ r. do
-      let t = poolTree (now (words .entry)) (now (labels .entry))
+      let t = treeIn (before labels words)
       ⌜ Returns (getCall t (now (key .entry))) r (now (number .entry) ∷ []) (now (number .exit) ∷ []) ⌝ }
 {
     let answer = search::get(labels, words, key);
@@ -58,14 +52,11 @@ pub extern "C" fn yarnhollow_insert(
     old: &mut u32,
 ) -> u32
     ensures { λ r. do
-      let ws = now (words .entry)
-      let bs = now (labels .entry)
-      let vs = now (words .exit)
-      let cs = now (labels .exit)
-      let call = insertCall (poolTree ws bs) (slotsIn bs) (now (key .entry)) number
-      let was = now («had_old» .entry) ∷ now (old .entry) ∷ []
-      let is = now («had_old» .exit) ∷ now (old .exit) ∷ []
-      ⌜ Inserts call r was is ws bs vs cs ⌝ }
+      let was = before labels words
+      let call = insertCall (treeIn was) (roomIn was) (now (key .entry)) number
+      let results = now («had_old» .entry) ∷ now (old .entry) ∷ []
+      let results′ = now («had_old» .exit) ∷ now (old .exit) ∷ []
+      ⌜ Inserts call r results results′ was (after labels words) ⌝ }
 {
     let answer = insert::insert(labels, words, key, RuleNo(number));
     results::store_inserted(answer, had_old, old);
@@ -80,12 +71,9 @@ pub extern "C" fn yarnhollow_remove(
     old: &mut u32,
 ) -> u32
     ensures { λ r. do
-      let ws = now (words .entry)
-      let bs = now (labels .entry)
-      let vs = now (words .exit)
-      let cs = now (labels .exit)
-      let call = removeCall (poolTree ws bs) (now (key .entry))
-      ⌜ Changes call r (now (old .entry) ∷ []) (now (old .exit) ∷ []) ws bs vs cs ⌝ }
+      let was = before labels words
+      let call = removeCall (treeIn was) (now (key .entry))
+      ⌜ Changes call r (now (old .entry) ∷ []) (now (old .exit) ∷ []) was (after labels words) ⌝ }
 {
     let answer = remove::remove(labels, words, key);
     results::store_got(answer, old);
@@ -101,10 +89,10 @@ pub extern "C" fn yarnhollow_longest(
     number: &mut u32,
 ) -> u32
     ensures { λ r. do
-      let t = poolTree (now (words .entry)) (now (labels .entry))
-      let was = now («prefix_length» .entry) ∷ now (number .entry) ∷ []
-      let is = now («prefix_length» .exit) ∷ now (number .exit) ∷ []
-      ⌜ Returns (longestCall t (now (query .entry))) r was is ⌝ }
+      let t = treeIn (before labels words)
+      let results = now («prefix_length» .entry) ∷ now (number .entry) ∷ []
+      let results′ = now («prefix_length» .exit) ∷ now (number .exit) ∷ []
+      ⌜ Returns (longestCall t (now (query .entry))) r results results′ ⌝ }
 {
     let answer = search::longest(labels, words, query);
     results::store_prefixed(answer, prefix_length, number);
@@ -119,10 +107,10 @@ pub extern "C" fn yarnhollow_shared(
     shared_length: &mut usize,
 ) -> u32
     ensures { λ r. do
-      let t = poolTree (now (words .entry)) (now (labels .entry))
-      let was = now («shared_length» .entry) ∷ []
-      let is = now («shared_length» .exit) ∷ []
-      ⌜ Returns (sharedCall t (now (query .entry))) r was is ⌝ }
+      let t = treeIn (before labels words)
+      let results = now («shared_length» .entry) ∷ []
+      let results′ = now («shared_length» .exit) ∷ []
+      ⌜ Returns (sharedCall t (now (query .entry))) r results results′ ⌝ }
 {
     let answer = search::shared(labels, words, query);
     results::store_sharing(answer, shared_length);
@@ -162,11 +150,11 @@ pub extern "C" fn yarnhollow_next(
     number: &mut u32,
 ) -> u32
     ensures { λ r. do
-      let t = poolTree (now (words .entry)) (now (labels .entry))
+      let t = treeIn (before labels words)
       let l = lastGiven begun (now (last .entry))
-      let was = now («key_length» .entry) ∷ now (number .entry) ∷ []
-      let is = now («key_length» .exit) ∷ now (number .exit) ∷ []
-      ⌜ NextGiven t (now (prefix .entry)) l r was is (now (out .entry)) (now (out .exit)) ⌝ }
+      let results = now («key_length» .entry) ∷ now (number .entry) ∷ []
+      let results′ = now («key_length» .exit) ∷ now (number .exit) ∷ []
+      ⌜ NextGiven t (now (prefix .entry)) l r results results′ (now (out .entry)) (now (out .exit)) ⌝ }
 {
     let step = resumed(prefix, last, begun).step(labels, words, out);
     let answer = step.answer;
@@ -183,16 +171,10 @@ pub extern "C" fn yarnhollow_split(
     words2: &mut [u32],
 ) -> u32
     ensures { λ r. do
-      let ws = now (words .entry)
-      let bs = now (labels .entry)
-      let ws₂ = now (words2 .entry)
-      let bs₂ = now (labels2 .entry)
-      let vs = now (words .exit)
-      let cs = now (labels .exit)
-      let vs₂ = now (words2 .exit)
-      let cs₂ = now (labels2 .exit)
-      let call = splitCall (poolTree ws bs) (slotsOf ws₂ bs₂) (now (prefix .entry))
-      ⌜ Splits call r ws bs ws₂ bs₂ vs cs vs₂ cs₂ ⌝ }
+      let was = before labels words
+      let was₂ = before labels2 words2
+      let call = splitCall (treeIn was) (sizeIn was₂) (now (prefix .entry))
+      ⌜ Splits call r was was₂ (after labels words) (after labels2 words2) ⌝ }
 {
     split::split(labels, words, prefix, labels2, words2).number()
 }
@@ -205,10 +187,10 @@ pub extern "C" fn yarnhollow_counts(
     nodes: &mut usize,
 ) -> u32
     ensures { λ r. do
-      let t = poolTree (now (words .entry)) (now (labels .entry))
-      let was = now (keys .entry) ∷ now (nodes .entry) ∷ []
-      let is = now (keys .exit) ∷ now (nodes .exit) ∷ []
-      ⌜ Returns (countsCall t) r was is ⌝ }
+      let t = treeIn (before labels words)
+      let results = now (keys .entry) ∷ now (nodes .entry) ∷ []
+      let results′ = now (keys .exit) ∷ now (nodes .exit) ∷ []
+      ⌜ Returns (countsCall t) r results results′ ⌝ }
 {
     let answer = pool::counts(labels, words);
     results::store_counted(answer, keys, nodes);
@@ -225,10 +207,10 @@ pub extern "C" fn yarnhollow_write(
     numbers_length: &mut usize,
 ) -> u32
     ensures { λ r. do
-      let t = poolTree (now (words .entry)) (now (labels .entry))
-      let was = now («tree_length» .entry) ∷ now («numbers_length» .entry) ∷ []
-      let is = now («tree_length» .exit) ∷ now («numbers_length» .exit) ∷ []
-      ⌜ Written t r was is (now (tree .entry)) (now (numbers .entry)) (now (tree .exit)) (now (numbers .exit)) ⌝ }
+      let t = treeIn (before labels words)
+      let results = now («tree_length» .entry) ∷ now («numbers_length» .entry) ∷ []
+      let results′ = now («tree_length» .exit) ∷ now («numbers_length» .exit) ∷ []
+      ⌜ Written t r results results′ (now (tree .entry)) (now (numbers .entry)) (now (tree .exit)) (now (numbers .exit)) ⌝ }
 {
     let answer = writer::write(labels, words, tree, numbers);
     results::store_written(answer, tree_length, numbers_length);
@@ -244,12 +226,9 @@ pub extern "C" fn yarnhollow_read(
     offset: &mut usize,
 ) -> u32
     ensures { λ r. do
-      let ws = now (words .entry)
-      let bs = now (labels .entry)
-      let vs = now (words .exit)
-      let cs = now (labels .exit)
-      let call = readCall (slotsOf ws bs) (now (tree .entry)) (now (numbers .entry))
-      ⌜ Changes call r (now (offset .entry) ∷ []) (now (offset .exit) ∷ []) ws bs vs cs ⌝ }
+      let was = before labels words
+      let call = readCall (sizeIn was) (now (tree .entry)) (now (numbers .entry))
+      ⌜ Changes call r (now (offset .entry) ∷ []) (now (offset .exit) ∷ []) was (after labels words) ⌝ }
 {
     let answer = reader::read(labels, words, tree, numbers);
     results::store_loaded(answer, offset);

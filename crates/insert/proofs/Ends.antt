@@ -87,10 +87,10 @@ record NodeHere (ws bs : List ℕ) (at s b : ℕ) (l : Key) (num : Num) (kids : 
   inside : at + suc (nodesF kids) ≤ nodesOf ws
 
 module _ {ws bs : List ℕ} {t : Tree} (h : Holds ws bs t) where
-  node-here : {a : ℕ} {k : Key} {s : Stop} {at end up above : ℕ} (p : Place t a k s at end up above) (b : ℕ) (l : Key) (num : Num) (kids rest : Forest)
+  node-here : {a : ℕ} {k : Key} {s : Stop} {at up above : ℕ} (p : Place t a k s at up above) (b : ℕ) (l : Key) (num : Num) (kids rest : Forest)
       → p .forest ≡ node b l num kids rest → NodeHere ws bs at (depth (p .context)) b l num kids
   unfolding room keyMax
-  node-here {a} {k} {s} {at} {end} {up} {above} p b l num kids rest e =
+  node-here {a} {k} {s} {at} {up} {above} p b l num kids rest e =
       let C = p .context in
       let f = node b l num kids rest in
       let st : Stands ws bs 0 (plug C f) 1 = rw (p .tree, e) at (h .kids) in
@@ -113,18 +113,18 @@ module _ {ws bs : List ℕ} {t : Tree} (h : Holds ws bs t) where
       }
 
   -- What the code asks of each place
-  pub gap-ready : (key : Key) (at end up above : ℕ) → PlaceOf t key Stop.Gap at end up above → (at ≤ nodesOf ws) × (above < length key)
-  gap-ready [] at end up above p = absurd p
-  gap-ready (a ∷ k) at end up above p =
+  pub gap-ready : (key : Key) (at up above : ℕ) → PlaceOf t key Stop.Gap at up above → (at ≤ nodesOf ws) × (above < length key)
+  gap-ready [] at up above p = absurd p
+  gap-ready (a ∷ k) at up above p =
       let m : nodesF (t .kids) ≡ nodesF (plug (p .context) (p .forest)) = ap nodesF (p .tree) in (
         omega (arith, p .at-is, m, plug-nodes (p .context) (p .forest), h .nodes, nodes-are t),
         omega (arith, p .above-is, leads-length (p .context) a k (p .y) (p .r) (p .leads)),
       )
 
   -- what stands in the place starts no deeper
-  gap-beside : (key : Key) (at end up above : ℕ) → PlaceOf t key Stop.Gap at end up above → at < nodesOf ws → startOf ws at ≤ above
-  gap-beside [] at end up above p l = absurd p
-  gap-beside (a ∷ k) at end up above p l =
+  gap-beside : (key : Key) (at up above : ℕ) → PlaceOf t key Stop.Gap at up above → at < nodesOf ws → startOf ws at ≤ above
+  gap-beside [] at up above p l = absurd p
+  gap-beside (a ∷ k) at up above p l =
       let C = p .context in
       let f = p .forest in
       let n = nodesOf ws in
@@ -135,25 +135,25 @@ module _ {ws bs : List ℕ} {t : Tree} (h : Holds ws bs t) where
       let z : startOf ws at ≡ startOf ws (before C) = ap (startOf ws) (p .at-is) in
       elim b [ inl q ↦ absurd (omega (arith, p .at-is)) | inr q ↦ omega (arith, p .above-is) ]
 
-  pub same-short : (key : Key) (at end up above : ℕ) → PlaceOf t key Stop.Same at end up above → lenOf ws at ≤ 255
-  same-short [] at end up above p = absurd p
-  same-short (a ∷ k) at end up above p =
+  pub same-short : (key : Key) (at up above : ℕ) → PlaceOf t key Stop.Same at up above → lenOf ws at ≤ 255
+  same-short [] at up above p = absurd p
+  same-short (a ∷ k) at up above p =
       let e = p .ends in
       omega (arith, node-here p (p .y) (p .r) (e .num) (e .kids) (e .rest) (e .is))
 
-  pub inside-ready : (key : Key) (m at end up above : ℕ) → PlaceOf t key (Stop.Inside m) at end up above → Cuts ws at m
-  inside-ready [] m at end up above p = absurd p
-  inside-ready (a ∷ k) m at end up above p =
+  pub inside-ready : (key : Key) (m at up above : ℕ) → PlaceOf t key (Stop.Inside m) at up above → Cuts ws at m
+  inside-ready [] m at up above p = absurd p
+  inside-ready (a ∷ k) m at up above p =
       let e = p .ends in
       let n = node-here p (p .y) (p .r ++ e .x ∷ e .tail) (e .num) (e .kids) (e .rest) (e .is) in
       let l = length-append (p .r) (e .x ∷ e .tail) in
       let b = e .bytes in
       record { used = omega arith; some = omega arith; cut = omega arith; short = omega arith; start = omega arith }
 
-  pub fork-ready : (key : Key) (m at end up above : ℕ) → length key ≤ 4096 → PlaceOf t key (Stop.Fork m) at end up above
+  pub fork-ready : (key : Key) (m at up above : ℕ) → length key ≤ 4096 → PlaceOf t key (Stop.Fork m) at up above
       → (above + m < length key) × Forks ws at m (left key (above + m))
-  fork-ready [] m at end up above short p = absurd p
-  fork-ready (a ∷ k) m at end up above short p =
+  fork-ready [] m at up above short p = absurd p
+  fork-ready (a ∷ k) m at up above short p =
       let e = p .ends in
       let n = node-here p (p .y) (e .shared ++ e .x ∷ e .tail) (e .num) (e .kids) (e .rest) (e .is) in
       let l = length-append (e .shared) (e .x ∷ e .tail) in
@@ -189,10 +189,10 @@ nowAt ws bs key v at above (Stop.Inside m) = frontOf m (some v) (bareAt ws bs at
 nowAt ws bs key v at above (Stop.Fork m) = forkBares ws bs at m (left key (above + m)) v (forkSide ws bs at m (left key (above + m)))
 
 -- A step of the forest that the search has come to is one of the tree.
-place-splits : (t : Tree) (a : ℕ) (k : Key) (v : ℕ) {s : Stop} {at end up above : ℕ} (p : Place t a k s at end up above) (was : ℕ) (ps xs : List Bare) → length ps ≡ was
+place-splits : (t : Tree) (a : ℕ) (k : Key) (v : ℕ) {s : Stop} {at up above : ℕ} (p : Place t a k s at up above) (was : ℕ) (ps xs : List Bare) → length ps ≡ was
     → Step (depth (p .context)) (p .forest) (insertF (p .forest) (p .y) (p .r) v) ps xs → Splits t (insertT t (a ∷ k) v) at was xs
 unfolding insertT
-place-splits t a k v {s} {at} {end} {up} {above} p was ps xs l st =
+place-splits t a k v {s} {at} {up} {above} p was ps xs l st =
     let C = p .context in
     let g = insertF (p .forest) (p .y) (p .r) v in
     let u : Tree = record { num = t .num; kids = insertF (t .kids) a k v } in
@@ -234,14 +234,14 @@ module _ {ws bs : List ℕ} {t : Tree} (h : Holds ws bs t) (v : ℕ) where
         new = ap (λ (x : Bare). x ∷ baresF 0 (t .kids)) (sym root-now);
       })
 
-  module _ (a : ℕ) (k : Key) (at end up above : ℕ) where
-    gap-splits : Place t a k Stop.Gap at end up above → Splits t (insertT t (a ∷ k) v) at 0 (leafBares above (left (a ∷ k) above) v)
+  module _ (a : ℕ) (k : Key) (at up above : ℕ) where
+    gap-splits : Place t a k Stop.Gap at up above → Splits t (insertT t (a ∷ k) v) at 0 (leafBares above (left (a ∷ k) above) v)
     gap-splits p =
         let C = p .context in
         let e : left (a ∷ k) above ≡ p .y ∷ p .r = left-is (a ∷ k) above ∙ ap (λ (n : ℕ). drop n (a ∷ k)) (p .above-is) ∙ leads-drop C a k (p .y) (p .r) (p .leads) in
         splits-as (leafBares above (left (a ∷ k) above) v) (baresF (depth C) (leaf (p .y) (p .r) v nil)) (rw (e, p .above-is) refl) (place-splits t a k v p 0 [] _ refl (gap-step (depth C) (p .forest) (p .y) (p .r) v (p .ends)))
 
-    same-splits : Place t a k Stop.Same at end up above → Splits t (insertT t (a ∷ k) v) at 1 (frontOf (lenOf ws at) (some v) (bareAt ws bs at) ∷ [])
+    same-splits : Place t a k Stop.Same at up above → Splits t (insertT t (a ∷ k) v) at 1 (frontOf (lenOf ws at) (some v) (bareAt ws bs at) ∷ [])
     same-splits p =
         let e = p .ends in
         let d = depth (p .context) in
@@ -250,7 +250,7 @@ module _ {ws bs : List ℕ} {t : Tree} (h : Holds ws bs t) (v : ℕ) where
         (rw (n .len, n .bare) (ap (λ (x : Bare). x ∷ []) (front-whole d (p .y) (p .r) (some v) (e .num))))
         (place-splits t a k v p 1 (nodeBare d (p .y) (p .r) (e .num) ∷ []) _ refl (rw (e .is) (same-step d (p .y) (e .num) (e .kids) (e .rest) v (p .r))))
 
-    inside-splits : (m : ℕ) → Place t a k (Stop.Inside m) at end up above
+    inside-splits : (m : ℕ) → Place t a k (Stop.Inside m) at up above
         → Splits t (insertT t (a ∷ k) v) at 1 (frontOf m (some v) (bareAt ws bs at) ∷ backOf m (bareAt ws bs at) ∷ [])
     inside-splits m p =
         let e = p .ends in
@@ -262,7 +262,7 @@ module _ {ws bs : List ℕ} {t : Tree} (h : Holds ws bs t) (v : ℕ) where
         (cc (front-cut d (p .y) (p .r) (e .x) (e .tail) (some v) (e .num), back-cut d (p .y) (p .r) (e .x) (e .tail) (e .num))))
         (place-splits t a k v p 1 (nodeBare d (p .y) (p .r ++ e .x ∷ e .tail) (e .num) ∷ []) _ refl (rw (e .is) (inside-step d (p .y) (e .num) (e .kids) (e .rest) v (p .r) (e .x) (e .tail))))
 
-    fork-splits : (m : ℕ) → Place t a k (Stop.Fork m) at end up above
+    fork-splits : (m : ℕ) → Place t a k (Stop.Fork m) at up above
         → let q = left (a ∷ k) (above + m) in
         let b = forkSide ws bs at m q in
         Splits t (insertT t (a ∷ k) v) at (forkWas ws at b) (forkBares ws bs at m q v b)
@@ -304,21 +304,21 @@ module _ {ws bs : List ℕ} {t : Tree} (h : Holds ws bs t) (v : ℕ) where
               (rw (e .is, e .key) (behind-step d (p .y) (e .num) (e .kids) (e .rest) v (e .shared) (e .x) (e .tail) (e .z) (e .left) (e .differ) i))))
         ]
 
-  splits : (key : Key) (s : Stop) (at end up above : ℕ) → PlaceOf t key s at end up above → Splits t (insertT t key v) at (wasAt ws bs key at above s) (nowAt ws bs key v at above s)
-  splits [] Stop.Root at end up above p = root-splits at p
-  splits [] Stop.Gap at end up above p = absurd p
-  splits [] Stop.Same at end up above p = absurd p
-  splits [] (Stop.Inside m) at end up above p = absurd p
-  splits [] (Stop.Fork m) at end up above p = absurd p
-  splits (a ∷ k) Stop.Root at end up above p = absurd (p .ends)
-  splits (a ∷ k) Stop.Gap at end up above p = gap-splits a k at end up above p
-  splits (a ∷ k) Stop.Same at end up above p = same-splits a k at end up above p
-  splits (a ∷ k) (Stop.Inside m) at end up above p = inside-splits a k at end up above m p
-  splits (a ∷ k) (Stop.Fork m) at end up above p = fork-splits a k at end up above m p
+  splits : (key : Key) (s : Stop) (at up above : ℕ) → PlaceOf t key s at up above → Splits t (insertT t key v) at (wasAt ws bs key at above s) (nowAt ws bs key v at above s)
+  splits [] Stop.Root at up above p = root-splits at (p .at-is)
+  splits [] Stop.Gap at up above p = absurd p
+  splits [] Stop.Same at up above p = absurd p
+  splits [] (Stop.Inside m) at up above p = absurd p
+  splits [] (Stop.Fork m) at up above p = absurd p
+  splits (a ∷ k) Stop.Root at up above p = absurd (p .ends)
+  splits (a ∷ k) Stop.Gap at up above p = gap-splits a k at up above p
+  splits (a ∷ k) Stop.Same at up above p = same-splits a k at up above p
+  splits (a ∷ k) (Stop.Inside m) at up above p = inside-splits a k at up above m p
+  splits (a ∷ k) (Stop.Fork m) at up above p = fork-splits a k at up above m p
 
-root-place : (t : Tree) (key : Key) (at end up above : ℕ) → PlaceOf t key Stop.Root at end up above → at ≡ 0
-root-place t [] at end up above p = p
-root-place t (a ∷ k) at end up above p = absurd (p .ends)
+root-place : (t : Tree) (key : Key) (at up above : ℕ) → PlaceOf t key Stop.Root at up above → at ≡ 0
+root-place t [] at up above p = p .at-is
+root-place t (a ∷ k) at up above p = absurd (p .ends)
 
 -- The ways of ending at which a number is set, as the code tells them apart: the first and the third
 abbrev AtNumber : Stop → Type 0
@@ -356,7 +356,7 @@ module _ {ws bs key : List ℕ} {d : Descent} (w : Known ws bs key d) where
   root-asks : d .stop ≡ Stop.Root → SetAsks
   root-asks e =
       let p = place w Stop.Root e in
-      let z = root-place (tree w) key (d .at .0) (d .end .0) (d .parent .0) (d .above) p in
+      let z = root-place (tree w) key (d .at .0) (d .parent .0) (d .above) p in
       let r = w .rule in
       (slots-are, omega (arith, z, r .nodes), rw z (omega (arith, r .root-len)))
 
@@ -364,7 +364,7 @@ module _ {ws bs key : List ℕ} {d : Descent} (w : Known ws bs key d) where
   same-asks e =
       let p = place w Stop.Same e in
       let h = holds w in
-      (slots-are, place-within h key Stop.Same (d .at .0) (d .end .0) (d .parent .0) (d .above) tt p, same-short h key (d .at .0) (d .end .0) (d .parent .0) (d .above) p)
+      (slots-are, place-within h key Stop.Same (d .at .0) (d .parent .0) (d .above) tt p, same-short h key (d .at .0) (d .parent .0) (d .above) p)
 
   set-at : (s : Stop) → d .stop ≡ s → AtNumber s → SetAsks
   set-at Stop.Root e h = root-asks e
@@ -377,7 +377,7 @@ module _ {ws bs key : List ℕ} {d : Descent} (w : Known ws bs key d) where
   set-asks h = set-at (d .stop) refl (at-number (d .stop) h)
 
   gap-place : d .stop ≡ Stop.Gap → (d .at .0 ≤ nodesOf ws) × (d .above < length key)
-  gap-place e = gap-ready (holds w) key (d .at .0) (d .end .0) (d .parent .0) (d .above) (place w Stop.Gap e)
+  gap-place e = gap-ready (holds w) key (d .at .0) (d .parent .0) (d .above) (place w Stop.Gap e)
 
   gap-within : d .stop ≡ Stop.Gap → d .above < length key
   gap-within e = gap-place e .1
@@ -394,17 +394,17 @@ module _ {ws bs key : List ℕ} {d : Descent} (w : Known ws bs key d) where
       record {
         rule = w .rule;
         inside = p .0;
-        beside = λ h. gap-beside (holds w) key (d .at .0) (d .end .0) (d .parent .0) (d .above) (place w Stop.Gap e) h;
+        beside = λ h. gap-beside (holds w) key (d .at .0) (d .parent .0) (d .above) (place w Stop.Gap e) h;
         left = omega arith;
         deep = omega arith;
       }
 
   pub inside-asks : (m : ℕ) → d .stop ≡ Stop.Inside m → PoolRule ws bs × Cuts ws (d .at .0) m
-  inside-asks m e = (w .rule, inside-ready (holds w) key m (d .at .0) (d .end .0) (d .parent .0) (d .above) (place w (Stop.Inside m) e))
+  inside-asks m e = (w .rule, inside-ready (holds w) key m (d .at .0) (d .parent .0) (d .above) (place w (Stop.Inside m) e))
 
   pub fork-asks : (m : ℕ) → d .stop ≡ Stop.Fork m → (d .above + m < length key) × Forks ws (d .at .0) m (left key (d .above + m))
   unfolding keyMax
-  fork-asks m e = fork-ready (holds w) key m (d .at .0) (d .end .0) (d .parent .0) (d .above) (w .short) (place w (Stop.Fork m) e)
+  fork-asks m e = fork-ready (holds w) key m (d .at .0) (d .parent .0) (d .above) (w .short) (place w (Stop.Fork m) e)
 
   -- the fork is within the key
   module _ (m : ℕ) (e : d .stop ≡ Stop.Fork m) where
@@ -457,9 +457,9 @@ module _ {ws bs key : List ℕ} {d : Descent} (w : Known ws bs key d) where
   meets by v s e vs cs told x =
       let h = holds w in
       let p = place w s e in
-      let g = get-place h key s (d .at .0) (d .end .0) (d .parent .0) (d .above) p in
+      let g = get-place h key s (d .at .0) (d .parent .0) (d .above) p in
       placed-meets (tree-is w) h key v by (w .short) vs cs (done (numbersW (gotAt s (numAt ws (d .at .0))) [])) told
-      (splits h v key s (d .at .0) (d .end .0) (d .parent .0) (d .above) p) (ap (λ (n : Num). done (numbersW n [])) (sym g)) x
+      (splits h v key s (d .at .0) (d .parent .0) (d .above) p) (ap (λ (n : Num). done (numbersW n [])) (sym g)) x
 
   -- a number is set
   set-there : Bytes key → (v : ℕ) (s : Stop) → d .stop ≡ s → AtNumber s → (vs cs : List ℕ) (told : Told)

@@ -11,14 +11,14 @@ ghost use Rattle.tree.specs.Key.{keyMax};
 ghost use Rattle.tree.specs.Tree.{Tree};
 ghost use Rattle.tree.specs.Image.{numbersW};
 ghost use Rattle.tree.specs.Told.{done, insertedTold};
-ghost use Rattle.tree.specs.Calls.{insertCall};
-ghost use Rattle.pool.specs.Pool.{poolTree, slotsIn};
-ghost use Rattle.pool.specs.Post.{Meets};
+ghost use Rattle.pool.specs.Pool.{poolTree};
+ghost use Rattle.pool.specs.Lent.{before, after};
 ghost use Rattle.pool.specs.Layout.{nodesOf, lenOf, spanOf, numAt};
 ghost use Rattle.pool.specs.Rule.{Within, PoolRule};
 ghost use Rattle.pool.specs.Splice.{bareAt, frontOf, backOf};
 ghost use Rattle.pool.specs.Spans.{Loose};
 ghost use Rattle.search.specs.Landing.{Lands};
+ghost use Rattle.insert.specs.Post.{InsertAllows};
 ghost use Rattle.insert.specs.Splices.{leafNodes, KeyLeft, newNodes, leafBares, Built, Grows, Opens, Cuts, Replaced, Forks, forkBares, forkSide, forkWas, Placed};
 use pool::splice::Stored;
 use search::Descent;
@@ -244,7 +244,7 @@ fn place(
     number: RuleNo,
 ) -> Inserted
     requires { ⌜ PoolRule (now words) (now labels) × (length (now key) ≤ keyMax) × ((t : Tree) → poolTree (now words) (now labels) ≡ some t → Lands t (now key) d) × Grows (now words) (now labels) n k × (k ≡ newNodes (d .stop) (d .above) (length (now key))) ⌝ }
-    ensures { λ r. ⌜ Meets (insertCall (poolTree (now (words .entry)) (now (labels .entry))) (slotsIn (now (labels .entry))) (now (key .entry)) (number .0)) (insertedTold r) (now (words .entry)) (now (labels .entry)) (now (words .exit)) (now (labels .exit)) ⌝ }
+    ensures { λ r. ⌜ InsertAllows (now (key .entry)) (number .0) r (before labels words) (after labels words) ⌝ }
 {
     let at = d.at;
     let above = d.above;
@@ -264,7 +264,7 @@ fn place(
 // stored one never needs room; the room is tested before anything is written.
 fn insert_in(labels: &mut [u8], words: &mut [u32], key: &[u8], number: RuleNo) -> Inserted
     requires { ⌜ PoolRule (now words) (now labels) × (length (now key) ≤ keyMax) ⌝ }
-    ensures { λ r. ⌜ Meets (insertCall (poolTree (now (words .entry)) (now (labels .entry))) (slotsIn (now (labels .entry))) (now (key .entry)) (number .0)) (insertedTold r) (now (words .entry)) (now (labels .entry)) (now (words .exit)) (now (labels .exit)) ⌝ }
+    ensures { λ r. ⌜ InsertAllows (now (key .entry)) (number .0) r (before labels words) (after labels words) ⌝ }
 {
     let d = search::descend(labels, words, key);
     let above = d.above;
@@ -279,7 +279,7 @@ fn insert_in(labels: &mut [u8], words: &mut [u32], key: &[u8], number: RuleNo) -
 
 // Stores the number at the key, and gives the old one, if any. Counterpart: `insert`.
 pub fn insert(labels: &mut [u8], words: &mut [u32], key: &[u8], number: RuleNo) -> Inserted
-    ensures { λ r. ⌜ Meets (insertCall (poolTree (now (words .entry)) (now (labels .entry))) (slotsIn (now (labels .entry))) (now (key .entry)) (number .0)) (insertedTold r) (now (words .entry)) (now (labels .entry)) (now (words .exit)) (now (labels .exit)) ⌝ }
+    ensures { λ r. ⌜ InsertAllows (now (key .entry)) (number .0) r (before labels words) (after labels words) ⌝ }
 {
     if !pool::is_pool(labels, words) {
         return Inserted::NotPool;

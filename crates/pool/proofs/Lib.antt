@@ -8,6 +8,8 @@ pub mod Held
 pub mod Sums
 pub mod Answers
 pub mod Decided
+pub mod Free
+pub mod Outcomes
 pub mod Reach
 pub mod Bares
 pub mod Slots

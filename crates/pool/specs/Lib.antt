@@ -1,6 +1,8 @@
 pub mod Layout
 pub mod Records
 pub mod Pool
+pub mod Lent
+pub mod Free
 pub mod Rule
 pub mod Post
 pub mod Fields

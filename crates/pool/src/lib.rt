@@ -3,12 +3,11 @@
 ghost use mathlib.Core.Path.{_≡_};
 ghost use Prim.Native.Nat.{ℕ, _+_, _*_, _≤_, _<_};
 ghost use lib.ListN.{length};
-ghost use Rattle.tree.specs.Told.{emptiedTold, countedTold};
-ghost use Rattle.tree.specs.Calls.{makeCall, clearCall, countsCall};
 ghost use Rattle.pool.specs.Layout.{nodesOf, startOf, lenOf, hasOf, numberOf, spanOf, firstOf, labelOf};
-ghost use Rattle.pool.specs.Pool.{slotsOf, poolTree};
+ghost use Rattle.pool.specs.Pool.{slotsOf};
 ghost use Rattle.pool.specs.Rule.{Says, Within, Child, Children, NodeAt, Lengths, PoolRule};
-ghost use Rattle.pool.specs.Post.{Meets};
+ghost use Rattle.pool.specs.Lent.{before, after};
+ghost use Rattle.pool.specs.Post.{MakeAllows, ClearAllows, CountsAllows};
 ghost use Rattle.pool.specs.Fields.{sizedOf, hasSum, emptied};
 use tree::Counted;
 use tree::Emptied;
@@ -247,7 +246,7 @@ pub fn write_empty(words: &mut [u32])
 
 // Makes a fresh pool. Only the lengths are tested; old contents don't matter.
 pub fn make(labels: &mut [u8], words: &mut [u32]) -> Emptied
-    ensures { λ r. ⌜ Meets (makeCall (slotsOf (now (words .entry)) (now (labels .entry)))) (emptiedTold r) (now (words .entry)) (now (labels .entry)) (now (words .exit)) (now (labels .exit)) ⌝ }
+    ensures { λ r. ⌜ MakeAllows r (before labels words) (after labels words) ⌝ }
 {
     let Sized::Slots(_) = slots_of(labels, words) else {
         return Emptied::NotPool;
@@ -258,7 +257,7 @@ pub fn make(labels: &mut [u8], words: &mut [u32]) -> Emptied
 
 // Leaves the empty tree in a pool.
 pub fn clear(labels: &mut [u8], words: &mut [u32]) -> Emptied
-    ensures { λ r. ⌜ Meets (clearCall (poolTree (now (words .entry)) (now (labels .entry)))) (emptiedTold r) (now (words .entry)) (now (labels .entry)) (now (words .exit)) (now (labels .exit)) ⌝ }
+    ensures { λ r. ⌜ ClearAllows r (before labels words) (after labels words) ⌝ }
 {
     if !is_pool(labels, words) {
         return Emptied::NotPool;
@@ -283,7 +282,7 @@ pub fn keys_in(words: &[u32], n: usize) -> usize
 
 // Keys and nodes, the root included.
 pub fn counts(labels: &[u8], words: &[u32]) -> Counted
-    ensures { λ r. ⌜ countedTold r ≡ countsCall (poolTree (now (words .entry)) (now (labels .entry))) ⌝ }
+    ensures { λ r. ⌜ CountsAllows r (before labels words) ⌝ }
 {
     if !is_pool(labels, words) {
         return Counted::NotPool;

@@ -95,6 +95,6 @@ module _ (s ns ws bs : List ℕ) (by : Bytes s) (d : FillDue s ns ws bs) where
       pub filled : Meets (readCall (slotsOf ws bs) s ns) (done []) ws bs us cs
       unfolding readCall readTold
       filled =
-          let l : Leaves (done []) (done []) (d .tree) ws bs us cs =
+          let l : Leaves (done []) [] (d .tree) ws bs us cs =
           record { said = refl; tree = holds-tree us cs (d .tree) holds; slots = slots-of us cs (d .slots) same ∙ sym (d .sized) } in
           rw (d .sized, readCall, d .accepted) l

@@ -5,9 +5,8 @@ ghost use Prim.Native.Nat.{_+_, _≤_, _<_};
 ghost use lib.ListN.{length, getD};
 ghost use Rattle.tree.specs.Reader.{judge};
 ghost use Rattle.tree.specs.Told.{loadedTold};
-ghost use Rattle.tree.specs.Calls.{readCall};
-ghost use Rattle.pool.specs.Pool.{slotsOf};
-ghost use Rattle.pool.specs.Post.{Meets};
+ghost use Rattle.pool.specs.Lent.{before, after};
+ghost use Rattle.reader.specs.Post.{ReadAllows};
 ghost use Rattle.reader.specs.Check.{foundOf, headRules, bodyRules, countRules, wentTo, NodeChecked, KidsChecked, Place, RootChecked, CheckedAs, answerOf};
 
 mod fill;
@@ -279,7 +278,9 @@ fn answer(verdict: Checked) -> Loaded
 // Reads an image into a pool, of which only the lengths are tested: old contents don't matter. With any number but 0 no lent
 // byte or word has changed. Counterpart: `KeyAndNode::deserialize`.
 pub fn read(labels: &mut [u8], words: &mut [u32], tree: &[u8], numbers: &[u32]) -> Loaded
-    ensures { λ r. ⌜ Meets (readCall (slotsOf (now (words .entry)) (now (labels .entry))) (now (tree .entry)) (now (numbers .entry))) (loadedTold r) (now (words .entry)) (now (labels .entry)) (now (words .exit)) (now (labels .exit)) ⌝ }
+    ensures { λ r. do
+      let was = before labels words
+      ⌜ ReadAllows (now (tree .entry)) (now (numbers .entry)) r was (after labels words) ⌝ }
 {
     let Sized::Slots(slots) = slots_of(labels, words) else {
         return Loaded::NotPool;

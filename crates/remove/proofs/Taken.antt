@@ -11,7 +11,8 @@ use Rattle.tree.specs.Tree.{Forest, nil, node, Tree, Wf, nodesF, keysW}
 use Rattle.tree.specs.Search.{getT}
 use Rattle.tree.specs.Remove.{settle, eraseF, eraseT, ifStored, removeT}
 use Rattle.tree.specs.Told.{Told, done, refusal}
-use Rattle.tree.specs.Calls.{numberTold, removeTold, removeCall}
+use Rattle.tree.specs.Image.{numbersW}
+use Rattle.tree.specs.Calls.{removeTold, removeCall}
 use Rattle.tree.specs.Context.{Context, plug, depth, before, settled}
 use Rattle.tree.proofs.Parts.{strip-append}
 use Rattle.tree.proofs.RemoveFind.{eraseF-here}
@@ -92,7 +93,7 @@ module _ {ws bs : List ℕ} {t : Tree} (h : Holds ws bs t) {vs : List ℕ} {at :
       }
 
   -- Any other: its node is to be settled, without its number.
-  node-stage : (x : ℕ) (k : Key) {end over above : ℕ} → Place t x k Stop.Same at end over above → Stage ws bs t (eraseT t (x ∷ k)) vs bs at
+  node-stage : (x : ℕ) (k : Key) {over above : ℕ} → Place t x k Stop.Same at over above → Stage ws bs t (eraseT t (x ∷ k)) vs bs at
   unfolding eraseT
   node-stage x k p =
       let C = p .context in
@@ -138,17 +139,17 @@ module _ {ws bs : List ℕ} {t : Tree} (h : Holds ws bs t) {vs : List ℕ} {at :
             });
       }
 
-  key-stage : (key : Key) (s : Stop) (end over above : ℕ) → Exact s → PlaceOf t key s at end over above → Stage ws bs t (eraseT t key) vs bs at
-  key-stage [] Stop.Root end over above e p = root-stage p
-  key-stage [] Stop.Gap end over above e p = absurd e
-  key-stage [] Stop.Same end over above e p = absurd p
-  key-stage [] (Stop.Inside m) end over above e p = absurd e
-  key-stage [] (Stop.Fork m) end over above e p = absurd e
-  key-stage (x ∷ k) Stop.Root end over above e p = absurd (p .ends)
-  key-stage (x ∷ k) Stop.Gap end over above e p = absurd e
-  key-stage (x ∷ k) Stop.Same end over above e p = node-stage x k p
-  key-stage (x ∷ k) (Stop.Inside m) end over above e p = absurd e
-  key-stage (x ∷ k) (Stop.Fork m) end over above e p = absurd e
+  key-stage : (key : Key) (s : Stop) (over above : ℕ) → Exact s → PlaceOf t key s at over above → Stage ws bs t (eraseT t key) vs bs at
+  key-stage [] Stop.Root over above e p = root-stage (p .at-is)
+  key-stage [] Stop.Gap over above e p = absurd e
+  key-stage [] Stop.Same over above e p = absurd p
+  key-stage [] (Stop.Inside m) over above e p = absurd e
+  key-stage [] (Stop.Fork m) over above e p = absurd e
+  key-stage (x ∷ k) Stop.Root over above e p = absurd (p .ends)
+  key-stage (x ∷ k) Stop.Gap over above e p = absurd e
+  key-stage (x ∷ k) Stop.Same over above e p = node-stage x k p
+  key-stage (x ∷ k) (Stop.Inside m) over above e p = absurd e
+  key-stage (x ∷ k) (Stop.Fork m) over above e p = absurd e
 
 module _ {ws bs : List ℕ} {at : ℕ} (x : Found ws bs at) where
   found-holds : Holds ws bs (x .tree)
@@ -157,11 +158,11 @@ module _ {ws bs : List ℕ} {at : ℕ} (x : Found ws bs at) where
   pub found-slot : (6 * at + 14 ≤ length ws) × (255 * at + 255 ≤ length bs)
   found-slot =
       let h = found-holds in
-      let l = place-within h (x .key) (x .stop) at (x .end) (x .over) (x .above) (exact-slot (x .stop) (x .exact)) (x .place) in
+      let l = place-within h (x .key) (x .stop) at (x .over) (x .above) (exact-slot (x .stop) (x .exact)) (x .place) in
       omega (arith, h .nodes, h .room, h .lengths .words, h .lengths .labels)
 
   found-number : getT (x .tree) (x .key) ≡ numAt ws at
-  found-number = get-place found-holds (x .key) (x .stop) at (x .end) (x .over) (x .above) (x .place) ∙ exact-number (x .stop) (numAt ws at) (x .exact)
+  found-number = get-place found-holds (x .key) (x .stop) at (x .over) (x .above) (x .place) ∙ exact-number (x .stop) (numAt ws at) (x .exact)
 
   -- without its number the pool is to be tidied
   pub found-climbing : (vs : List ℕ) → Altered ws bs vs bs at (numberless (bareAt ws bs at)) → Climbing vs bs at
@@ -174,7 +175,7 @@ module _ {ws bs : List ℕ} {at : ℕ} (x : Found ws bs at) where
         bytes = x .bytes;
         final = eraseT (x .tree) (x .key);
         wf = erase-wf (x .tree) (x .key) (found-holds .wf);
-        stage = key-stage found-holds a (x .key) (x .stop) (x .end) (x .over) (x .above) (x .exact) (x .place);
+        stage = key-stage found-holds a (x .key) (x .stop) (x .over) (x .above) (x .exact) (x .place);
       }
 
   -- what the call tells and leaves
@@ -184,7 +185,7 @@ module _ {ws bs : List ℕ} {at : ℕ} (x : Found ws bs at) where
 
   pub stored : (v : ℕ) (vs us ds : List ℕ) → some v ≡ numAt ws at → (a : Altered ws bs vs bs at (numberless (bareAt ws bs at))) → Tidied vs bs us ds (found-climbing vs a .final)
       → Meets (removeCall (poolTree ws bs) (x .key)) (done (v ∷ [])) ws bs us ds
-  unfolding removeCall removeT ifStored removeTold numberTold found-climbing
+  unfolding removeCall removeT ifStored removeTold numbersW found-climbing
   stored v vs us ds e a d =
       let h = found-holds in
       rw (x .is, fits-well (x .key) (x .short), removeCall, found-number, ← e, ifStored, removeTold)
@@ -202,7 +203,6 @@ module _ {ws bs key : List ℕ} {d : Descent} (w : Known ws bs key d) where
         short = w .short;
         stop = s;
         exact = x;
-        end = d .end .0;
         over = d .parent .0;
         above = d .above;
         place = place w s e;
@@ -211,7 +211,7 @@ module _ {ws bs key : List ℕ} {d : Descent} (w : Known ws bs key d) where
   pub elsewhere : (s : Stop) → d .stop ≡ s → gotAt s (numAt ws (d .at .0)) ≡ none → Meets (removeCall (poolTree ws bs) key) (refusal 3) ws bs ws bs
   unfolding removeCall removeT ifStored removeTold
   elsewhere s e g =
-      let n = get-place (holds w) key s (d .at .0) (d .end .0) (d .parent .0) (d .above) (place w s e) ∙ g in
+      let n = get-place (holds w) key s (d .at .0) (d .parent .0) (d .above) (place w s e) ∙ g in
       rw (tree-is w, fits-well key (w .short), removeCall, n, ifStored, removeTold) (record { said = refl; words = refl; labels = refl })
 
 -- Refusals 1 and 2

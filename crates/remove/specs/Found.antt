@@ -25,7 +25,6 @@ pub record Found (ws bs : List ℕ) (at : ℕ) : Type 0 where
   pub short : length key ≤ keyMax
   pub stop : Stop
   pub exact : Exact stop
-  pub end : ℕ
   pub over : ℕ
   pub above : ℕ
-  pub place : PlaceOf tree key stop at end over above
+  pub place : PlaceOf tree key stop at over above

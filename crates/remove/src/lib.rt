@@ -1,15 +1,12 @@
 // Remove: the key is looked up, its number is taken away, and the way back up is tidied. An absent key tidies nothing.
 // Counterpart: `remove` of the Rust.
-ghost use mathlib.Core.Path.{_≡_};
 ghost use Prim.Native.Nat.{_≤_};
 ghost use lib.ListN.{length};
 ghost use Rattle.tree.specs.Key.{keyMax};
-ghost use Rattle.tree.specs.Told.{gotTold};
-ghost use Rattle.tree.specs.Calls.{removeCall};
-ghost use Rattle.pool.specs.Pool.{poolTree};
-ghost use Rattle.pool.specs.Post.{Meets};
+ghost use Rattle.pool.specs.Lent.{before, after};
 ghost use Rattle.pool.specs.Rule.{PoolRule};
 ghost use Rattle.remove.specs.Found.{Found};
+ghost use Rattle.remove.specs.Post.{RemoveAllows};
 use pool::splice::Stored;
 use search::Stop;
 use tree::Got;
@@ -18,7 +15,9 @@ use tree::Slot;
 // The key ends at the slot: its number is taken, if there is one.
 fn take_number(labels: &mut [u8], words: &mut [u32], at: Slot) -> Got
     requires { ⌜ Found (now words) (now labels) (at .0) ⌝ }
-    ensures { λ r. ⌜ ((x : Found (now (words .entry)) (now (labels .entry)) (at .0)) → Meets (removeCall (poolTree (now (words .entry)) (now (labels .entry))) (x .key)) (gotTold r) (now (words .entry)) (now (labels .entry)) (now (words .exit)) (now (labels .exit))) ⌝ }
+    ensures { λ r. do
+      let was = before labels words
+      ⌜ ((x : Found (was .words) (was .labels) (at .0)) → RemoveAllows (x .key) r was (after labels words)) ⌝ }
 {
     match pool::splice::stored_at(words, at) {
         Stored::Nothing => Got::NotFound,
@@ -33,7 +32,7 @@ fn take_number(labels: &mut [u8], words: &mut [u32], at: Slot) -> Got
 // `remove` in a pool that has been tested, of a key that is not too long.
 fn remove_in(labels: &mut [u8], words: &mut [u32], key: &[u8]) -> Got
     requires { ⌜ PoolRule (now words) (now labels) × (length (now key) ≤ keyMax) ⌝ }
-    ensures { λ r. ⌜ Meets (removeCall (poolTree (now (words .entry)) (now (labels .entry))) (now (key .entry))) (gotTold r) (now (words .entry)) (now (labels .entry)) (now (words .exit)) (now (labels .exit)) ⌝ }
+    ensures { λ r. ⌜ RemoveAllows (now (key .entry)) r (before labels words) (after labels words) ⌝ }
 {
     let d = search::descend(labels, words, key);
     let at = d.at;
@@ -49,7 +48,7 @@ fn remove_in(labels: &mut [u8], words: &mut [u32], key: &[u8]) -> Got
 
 // Takes the key out, and gives its number.
 pub fn remove(labels: &mut [u8], words: &mut [u32], key: &[u8]) -> Got
-    ensures { λ r. ⌜ Meets (removeCall (poolTree (now (words .entry)) (now (labels .entry))) (now (key .entry))) (gotTold r) (now (words .entry)) (now (labels .entry)) (now (words .exit)) (now (labels .exit)) ⌝ }
+    ensures { λ r. ⌜ RemoveAllows (now (key .entry)) r (before labels words) (after labels words) ⌝ }
 {
     if !pool::is_pool(labels, words) {
         return Got::NotPool;

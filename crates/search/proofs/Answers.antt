@@ -75,51 +75,51 @@ begins (Stop.Fork m) f y r h e = record { b = y; l = e .shared ++ e .x ∷ e .ta
 
 module _ {ws bs : List ℕ} {t : Tree} (h : Holds ws bs t) where
   -- the slot is in use
-  pub place-within : (key : Key) (s : Stop) (at end up above : ℕ) → AtSlot s → PlaceOf t key s at end up above → at < nodesOf ws
-  place-within [] Stop.Root at end up above i p = omega (arith, p, h .nodes, nodes-are t)
-  place-within [] Stop.Gap at end up above i p = absurd p
-  place-within [] Stop.Same at end up above i p = absurd p
-  place-within [] (Stop.Inside m) at end up above i p = absurd p
-  place-within [] (Stop.Fork m) at end up above i p = absurd p
-  place-within (a ∷ k) s at end up above i p =
+  pub place-within : (key : Key) (s : Stop) (at up above : ℕ) → AtSlot s → PlaceOf t key s at up above → at < nodesOf ws
+  place-within [] Stop.Root at up above i p = omega (arith, p, h .nodes, nodes-are t)
+  place-within [] Stop.Gap at up above i p = absurd p
+  place-within [] Stop.Same at up above i p = absurd p
+  place-within [] (Stop.Inside m) at up above i p = absurd p
+  place-within [] (Stop.Fork m) at up above i p = absurd p
+  place-within (a ∷ k) s at up above i p =
       let f = begins s (p .forest) (p .y) (p .r) i (p .ends) in
       let n : nodesF (t .kids) ≡ nodesF (plug (p .context) (p .forest)) = ap nodesF (p .tree) in
       let m : nodesF (p .forest) ≡ suc (nodesF (f .kids) + nodesF (f .rest)) = ap nodesF (f .is) ∙ nodes-node (f .b) (f .l) (f .num) (f .kids) (f .rest) in
       omega (arith, p .at-is, n, m, plug-nodes (p .context) (p .forest), h .nodes, nodes-are t)
 
   -- the number of the node that a forest begins with
-  slot-num : {a : ℕ} {k : Key} {s : Stop} {at end up above : ℕ} (p : Place t a k s at end up above) (b : ℕ) (l : Key) (w : Num) (kids rest : Forest)
+  slot-num : {a : ℕ} {k : Key} {s : Stop} {at up above : ℕ} (p : Place t a k s at up above) (b : ℕ) (l : Key) (w : Num) (kids rest : Forest)
       → p .forest ≡ node b l w kids rest → numAt ws at ≡ w
-  slot-num {a} {k} {s} {at} {end} {up} {above} p b l w kids rest e =
+  slot-num {a} {k} {s} {at} {up} {above} p b l w kids rest e =
       let st : Stands ws bs 0 (plug (p .context) (node b l w kids rest)) 1 = rw (p .tree, e) at (h .kids) in
       let x = stands-at ws bs (depth (p .context)) (node b l w kids rest) (sym (p .at-is)) (plug-stands ws bs (p .context) (node b l w kids rest) st) in
       slot-is-rec ws bs at (nodeRec (depth (p .context)) b l w (nodesF kids)) (x .0) .num
 
-  get-place-cons : (a : ℕ) (k : Key) (s : Stop) (at end up above : ℕ) (p : Place t a k s at end up above) → findF (p .forest) (p .y) (p .r) ≡ gotAt s (numAt ws at)
+  get-place-cons : (a : ℕ) (k : Key) (s : Stop) (at up above : ℕ) (p : Place t a k s at up above) → findF (p .forest) (p .y) (p .r) ≡ gotAt s (numAt ws at)
   unfolding gotAt
-  get-place-cons a k Stop.Root at end up above p = absurd (p .ends)
-  get-place-cons a k Stop.Gap at end up above p = above-none (p .y) (p .forest) (p .ends) (p .y) (p .r) (omega arith)
-  get-place-cons a k Stop.Same at end up above p =
+  get-place-cons a k Stop.Root at up above p = absurd (p .ends)
+  get-place-cons a k Stop.Gap at up above p = above-none (p .y) (p .forest) (p .ends) (p .y) (p .r) (omega arith)
+  get-place-cons a k Stop.Same at up above p =
       let e = p .ends in
       rw (e .is) (find-here (p .y) (p .r) (e .num) (e .kids) (e .rest) (p .y) refl ∙ sym (slot-num p (p .y) (p .r) (e .num) (e .kids) (e .rest) (e .is)))
-  get-place-cons a k (Stop.Inside m) at end up above p =
+  get-place-cons a k (Stop.Inside m) at up above p =
       let e = p .ends in
       rw (e .is) (find-nothing (p .y) (p .r ++ e .x ∷ e .tail) (e .num) (e .kids) (e .rest) (p .y) (p .r) refl (strip-short (p .r) (e .x) (e .tail)))
-  get-place-cons a k (Stop.Fork m) at end up above p =
+  get-place-cons a k (Stop.Fork m) at up above p =
       let e = p .ends in
       rw (e .is, e .key)
       (find-nothing (p .y) (e .shared ++ e .x ∷ e .tail) (e .num) (e .kids) (e .rest) (p .y) (e .shared ++ e .z ∷ e .left) refl
       (strip-fork (e .shared) (e .x) (e .tail) (e .z) (e .left) (e .differ)))
 
-  pub get-place : (key : Key) (s : Stop) (at end up above : ℕ) → PlaceOf t key s at end up above → getT t key ≡ gotAt s (numAt ws at)
+  pub get-place : (key : Key) (s : Stop) (at up above : ℕ) → PlaceOf t key s at up above → getT t key ≡ gotAt s (numAt ws at)
   unfolding gotAt findT look
-  get-place [] Stop.Root at end up above p = get-is-find t [] ∙ sym (ap (numAt ws) p ∙ slot-is-rec ws bs 0 (rootRec (t .num) (nodesF (t .kids))) (h .root) .num)
-  get-place [] Stop.Gap at end up above p = absurd p
-  get-place [] Stop.Same at end up above p = absurd p
-  get-place [] (Stop.Inside m) at end up above p = absurd p
-  get-place [] (Stop.Fork m) at end up above p = absurd p
-  get-place (a ∷ k) s at end up above p =
-      get-plug t (p .context) (p .forest) a k (p .y) (p .r) (p .tree) (p .leads) ∙ get-place-cons a k s at end up above p
+  get-place [] Stop.Root at up above p = get-is-find t [] ∙ sym (ap (numAt ws) (p .at-is) ∙ slot-is-rec ws bs 0 (rootRec (t .num) (nodesF (t .kids))) (h .root) .num)
+  get-place [] Stop.Gap at up above p = absurd p
+  get-place [] Stop.Same at up above p = absurd p
+  get-place [] (Stop.Inside m) at up above p = absurd p
+  get-place [] (Stop.Fork m) at up above p = absurd p
+  get-place (a ∷ k) s at up above p =
+      get-plug t (p .context) (p .forest) a k (p .y) (p .r) (p .tree) (p .leads) ∙ get-place-cons a k s at up above p
 
 -- What a look in a list of one has matched
 shared-part : (n m : ℕ) (ls : List Look) → ls ≡ inPart m ∷ [] → sharedIn n ls ≡ m
@@ -136,25 +136,25 @@ shared-gap d nil y r h = refl
 shared-gap d (node b l w kids rest) y r h = shared-part d d _ (looks-lt d b l w kids rest y r h)
 
 module _ (t : Tree) where
-  shared-place-cons : (a : ℕ) (k : Key) (s : Stop) (at end up above : ℕ) (p : Place t a k s at end up above)
+  shared-place-cons : (a : ℕ) (k : Key) (s : Stop) (at up above : ℕ) (p : Place t a k s at up above)
       → sharedIn (depth (p .context)) (looksF (depth (p .context)) (p .forest) (p .y) (p .r)) ≡ sharedAt s above (suc (length k))
   unfolding sharedAt
-  shared-place-cons a k Stop.Root at end up above p = absurd (p .ends)
-  shared-place-cons a k Stop.Gap at end up above p = shared-gap (depth (p .context)) (p .forest) (p .y) (p .r) (p .ends) ∙ sym (p .above-is)
-  shared-place-cons a k Stop.Same at end up above p =
+  shared-place-cons a k Stop.Root at up above p = absurd (p .ends)
+  shared-place-cons a k Stop.Gap at up above p = shared-gap (depth (p .context)) (p .forest) (p .y) (p .r) (p .ends) ∙ sym (p .above-is)
+  shared-place-cons a k Stop.Same at up above p =
       let e = p .ends in
       let d = depth (p .context) in
       rw (e .is)
       (shared-whole d _ (e .num) _ (looks-same d (p .y) (p .r) (e .num) (e .kids) (e .rest) (p .y) (p .r) refl (part-same (p .r)))
       ∙ sym (leads-length (p .context) a k (p .y) (p .r) (p .leads)))
-  shared-place-cons a k (Stop.Inside m) at end up above p =
+  shared-place-cons a k (Stop.Inside m) at up above p =
       let e = p .ends in
       let d = depth (p .context) in
       let l = p .r ++ e .x ∷ e .tail in
       rw (e .is)
       (shared-part d _ _ (looks-keyEnds d (p .y) l (e .num) (e .kids) (e .rest) (p .y) (p .r) (e .x) (e .tail) refl (part-keyEnds (p .r) (e .x) (e .tail)))
       ∙ sym (leads-length (p .context) a k (p .y) (p .r) (p .leads)))
-  shared-place-cons a k (Stop.Fork m) at end up above p =
+  shared-place-cons a k (Stop.Fork m) at up above p =
       let e = p .ends in
       let d = depth (p .context) in
       let l = e .shared ++ e .x ∷ e .tail in
@@ -164,29 +164,29 @@ module _ (t : Tree) where
       rw (e .is, e .key)
       (shared-part d _ _ (looks-fork d (p .y) l (e .num) (e .kids) (e .rest) (p .y) q (e .shared) (e .z) (e .left) (e .x) (e .tail) refl parts) ∙ matched)
 
-  pub shared-place : (key : Key) (s : Stop) (at end up above : ℕ) → PlaceOf t key s at end up above → sharedT t key ≡ sharedAt s above (length key)
+  pub shared-place : (key : Key) (s : Stop) (at up above : ℕ) → PlaceOf t key s at up above → sharedT t key ≡ sharedAt s above (length key)
   unfolding sharedAt sharedT looksT sharedIn
-  shared-place [] Stop.Root at end up above p = refl
-  shared-place [] Stop.Gap at end up above p = absurd p
-  shared-place [] Stop.Same at end up above p = absurd p
-  shared-place [] (Stop.Inside m) at end up above p = absurd p
-  shared-place [] (Stop.Fork m) at end up above p = absurd p
-  shared-place (a ∷ k) s at end up above p =
-      shared-plug t (p .context) (p .forest) a k (p .y) (p .r) (p .tree) (p .leads) ∙ shared-place-cons a k s at end up above p
+  shared-place [] Stop.Root at up above p = refl
+  shared-place [] Stop.Gap at up above p = absurd p
+  shared-place [] Stop.Same at up above p = absurd p
+  shared-place [] (Stop.Inside m) at up above p = absurd p
+  shared-place [] (Stop.Fork m) at up above p = absurd p
+  shared-place (a ∷ k) s at up above p =
+      shared-plug t (p .context) (p .forest) a k (p .y) (p .r) (p .tree) (p .leads) ∙ shared-place-cons a k s at up above p
 
   -- what has matched is part of the key
-  pub shared-most : (key : Key) (s : Stop) (at end up above : ℕ) → PlaceOf t key s at end up above → sharedAt s above (length key) ≤ length key
+  pub shared-most : (key : Key) (s : Stop) (at up above : ℕ) → PlaceOf t key s at up above → sharedAt s above (length key) ≤ length key
   unfolding sharedAt
-  shared-most [] Stop.Root at end up above p = omega arith
-  shared-most [] Stop.Gap at end up above p = absurd p
-  shared-most [] Stop.Same at end up above p = absurd p
-  shared-most [] (Stop.Inside m) at end up above p = absurd p
-  shared-most [] (Stop.Fork m) at end up above p = absurd p
-  shared-most (a ∷ k) Stop.Root at end up above p = omega arith
-  shared-most (a ∷ k) Stop.Gap at end up above p = omega (arith, p .above-is, leads-length (p .context) a k (p .y) (p .r) (p .leads))
-  shared-most (a ∷ k) Stop.Same at end up above p = omega arith
-  shared-most (a ∷ k) (Stop.Inside m) at end up above p = omega arith
-  shared-most (a ∷ k) (Stop.Fork m) at end up above p =
+  shared-most [] Stop.Root at up above p = omega arith
+  shared-most [] Stop.Gap at up above p = absurd p
+  shared-most [] Stop.Same at up above p = absurd p
+  shared-most [] (Stop.Inside m) at up above p = absurd p
+  shared-most [] (Stop.Fork m) at up above p = absurd p
+  shared-most (a ∷ k) Stop.Root at up above p = omega arith
+  shared-most (a ∷ k) Stop.Gap at up above p = omega (arith, p .above-is, leads-length (p .context) a k (p .y) (p .r) (p .leads))
+  shared-most (a ∷ k) Stop.Same at up above p = omega arith
+  shared-most (a ∷ k) (Stop.Inside m) at up above p = omega arith
+  shared-most (a ∷ k) (Stop.Fork m) at up above p =
       let e = p .ends in
       let n = simp length-append at (ap length (e .key)) in
       omega (arith, p .above-is, e .bytes, leads-length (p .context) a k (p .y) (p .r) (p .leads))
@@ -250,17 +250,17 @@ module _ {ws bs key : List ℕ} {d : Descent} (w : Known ws bs key d) where
   pub holds : Holds ws bs tree
   holds = tree-holds ws bs (w .bytes) tree tree-is
 
-  pub place : (s : Stop) → d .stop ≡ s → PlaceOf tree key s (d .at .0) (d .end .0) (d .parent .0) (d .above)
-  place s e = subst (λ (x : Stop). PlaceOf tree key x (d .at .0) (d .end .0) (d .parent .0) (d .above)) e (w .lands tree tree-is .place)
+  pub place : (s : Stop) → d .stop ≡ s → PlaceOf tree key s (d .at .0) (d .parent .0) (d .above)
+  place s e = subst (λ (x : Stop). PlaceOf tree key x (d .at .0) (d .parent .0) (d .above)) e (w .lands tree tree-is .place)
 
   -- the slot lies within the words
   pub got-slot : (s : Stop) → d .stop ≡ s → AtSlot s → 6 * d .at .0 + 14 ≤ length ws
-  got-slot s e i = omega (arith, w .rule, place-within holds key s (d .at .0) (d .end .0) (d .parent .0) (d .above) i (place s e))
+  got-slot s e i = omega (arith, w .rule, place-within holds key s (d .at .0) (d .parent .0) (d .above) i (place s e))
 
   pub got-is : (s : Stop) → d .stop ≡ s → (told : Told) → told ≡ numberTold (gotAt s (numAt ws (d .at .0))) → told ≡ getCall (poolTree ws bs) key
   unfolding getCall
   got-is s e told h =
-      let g = get-place holds key s (d .at .0) (d .end .0) (d .parent .0) (d .above) (place s e) in
+      let g = get-place holds key s (d .at .0) (d .parent .0) (d .above) (place s e) in
       rw (tree-is, fits-well key (w .short), getCall, g) h
 
   pub longest-is : (b : Best) → d .best ≡ b → (told : Told) → told ≡ longestTold (bestOf b) → told ≡ longestCall (poolTree ws bs) key
@@ -272,12 +272,12 @@ module _ {ws bs key : List ℕ} {d : Descent} (w : Known ws bs key d) where
   pub shared-is : (s : Stop) → d .stop ≡ s → (n : ℕ) → n ≡ sharedAt s (d .above) (length key) → done (n ∷ []) ≡ sharedCall (poolTree ws bs) key
   unfolding sharedCall
   shared-is s e n h =
-      let g = shared-place tree key s (d .at .0) (d .end .0) (d .parent .0) (d .above) (place s e) in
+      let g = shared-place tree key s (d .at .0) (d .parent .0) (d .above) (place s e) in
       rw (tree-is, fits-well key (w .short), sharedCall, g, ← h)
 
   -- the sum at a fork fits
   pub shared-within : (s : Stop) → d .stop ≡ s → sharedAt s (d .above) (length key) ≤ length key
-  shared-within s e = shared-most tree key s (d .at .0) (d .end .0) (d .parent .0) (d .above) (place s e)
+  shared-within s e = shared-most tree key s (d .at .0) (d .parent .0) (d .above) (place s e)
 
 -- The number at a slot, and none
 pub number-none : (h v : ℕ) → h ≡ 0 → refusal 3 ≡ numberTold (numOf h v)

@@ -1,5 +1,6 @@
 pub mod Meets
 pub mod Places
 pub mod Seek
+pub mod EndsOnce
 pub mod Answers
 pub mod Decided

@@ -22,7 +22,7 @@ use Rattle.pool.proofs.Held.{SlotIs, slot-is-rec, tree-holds, holds-tree}
 use Rattle.search.specs.declared.Meeting.{Meeting}
 use Rattle.search.specs.declared.Stop.{Stop}
 use Rattle.search.specs.declared.Descent.{Descent}
-use Rattle.search.specs.Landing.{InPool, meetingOf, bestOf, SameAt, InsideAt, ForkAt, Ends, PlaceOf, Lands}
+use Rattle.search.specs.Landing.{InPool, meetingOf, bestOf, SameAt, InsideAt, ForkAt, Ends, AtRoot, PlaceOf, Lands}
 use Rattle.search.proofs.Meets.{Means, means}
 use Rattle.search.proofs.Places.{plug-stands, plug-wf, nodes-node, plug-nodes, leads-drop, leads-length, longest-append, longest-plug}
 
@@ -96,7 +96,7 @@ module _ (ws bs key : List ℕ) (rule : PoolRule ws bs) (by : Bytes bs) where
       }
 
   -- the empty key
-  pub lands-root : (d : Descent) → length key ≡ 0 → d .stop ≡ Stop.Root → d .at .0 ≡ 0 → bestOf (d .best) ≡ met 0 (numAt ws 0) none
+  pub lands-root : (d : Descent) → length key ≡ 0 → d .stop ≡ Stop.Root → AtRoot (d .at .0) (d .parent .0) (d .above) → bestOf (d .best) ≡ met 0 (numAt ws 0) none
       → (t : Tree) → poolTree ws bs ≡ some t → Lands t key d
   unfolding longestT looksT longestIn
   lands-root d none-left stop at eb t e =
@@ -104,7 +104,7 @@ module _ (ws bs key : List ℕ) (rule : PoolRule ws bs) (by : Bytes bs) where
       go key none-left b
     where
       go : (q : Key) → length q ≡ 0 → bestOf (d .best) ≡ met 0 (t .num) none → Lands t q d
-      go [] h b = record { place = subst (λ (s : Stop). PlaceOf t [] s (d .at .0) (d .end .0) (d .parent .0) (d .above)) (sym stop) at; best = b }
+      go [] h b = record { place = subst (λ (s : Stop). PlaceOf t [] s (d .at .0) (d .parent .0) (d .above)) (sym stop) at; best = b }
       go (x ∷ q) h b = absurd (omega arith)
 
 -- What stands where the search has come to
@@ -177,11 +177,11 @@ seek-node {ws} {bs} {key} {best} {up} {c} {e} {p} rule h s = go (s .forest) (s .
     go (node b l num kids rest) w = come-node rule w
 
 -- A search that ends at the forest f
-lands : {ws bs key : List ℕ} {best : Option (ℕ × ℕ)} {f : Forest} (d : Descent) (w : Come ws bs key best (d .parent .0) (d .at .0) (d .end .0) (d .above) f)
+lands : {ws bs key : List ℕ} {best : Option (ℕ × ℕ)} {e : ℕ} {f : Forest} (d : Descent) (w : Come ws bs key best (d .parent .0) (d .at .0) e (d .above) f)
     → (stop : Stop) → d .stop ≡ stop → Ends stop f (w .y) (w .r) → bestOf (d .best) ≡ longestIn best (looksF (depth (w .context)) f (w .y) (w .r))
     → (t : Tree) → poolTree ws bs ≡ some t → Lands t key d
-lands {ws} {bs} {key} {best} {f} d w stop is ends eb t e =
-    let same-tree : w .tree ≡ t = the-tree (w .tree) t (sym (holds-tree ws bs (w .tree) (w .holds)) ∙ e) in
+lands {ws} {bs} {key} {best} {e} {f} d w stop is ends eb t q =
+    let same-tree : w .tree ≡ t = the-tree (w .tree) t (sym (holds-tree ws bs (w .tree) (w .holds)) ∙ q) in
     let plugged : t .kids ≡ plug (w .context) f = rw same-tree at (w .plugged) in
     let best-is : best ≡ longestIn (met 0 (t .num) none) (passed (w .context)) = rw same-tree at (w .best-is) in
     let all = longest-plug t (w .context) f (w .a) (w .k) (w .y) (w .r) plugged (w .leads) in
@@ -197,7 +197,6 @@ lands {ws} {bs} {key} {best} {f} d w stop is ends eb t e =
             tree = plugged;
             leads = w .leads;
             at-is = w .at-is;
-            end-is = w .end-is;
             parent-is = w .parent-is;
             above-is = w .above-is;
             ends = subst (λ (x : Stop). Ends x f (w .y) (w .r)) (sym is) ends;
@@ -219,16 +218,16 @@ unfolding longestIn looksF
 longest-nil best s y r = refl
 
 -- no slot is left
-pub lands-last : {ws bs key : List ℕ} (d : Descent) → Seek ws bs key (bestOf (d .best)) (d .parent .0) (d .at .0) (d .end .0) (d .above)
-    → d .end .0 ≤ d .at .0 → d .stop ≡ Stop.Gap → (t : Tree) → poolTree ws bs ≡ some t → Lands t key d
-lands-last {ws} {bs} {key} d s h stop = go (s .forest) (s .come)
+pub lands-last : {ws bs key : List ℕ} {e : ℕ} (d : Descent) → Seek ws bs key (bestOf (d .best)) (d .parent .0) (d .at .0) e (d .above)
+    → e ≤ d .at .0 → d .stop ≡ Stop.Gap → (t : Tree) → poolTree ws bs ≡ some t → Lands t key d
+lands-last {ws} {bs} {key} {e} d s h stop = go (s .forest) (s .come)
   where
-    go : (f : Forest) → Come ws bs key (bestOf (d .best)) (d .parent .0) (d .at .0) (d .end .0) (d .above) f → (t : Tree) → poolTree ws bs ≡ some t → Lands t key d
+    go : (f : Forest) → Come ws bs key (bestOf (d .best)) (d .parent .0) (d .at .0) e (d .above) f → (t : Tree) → poolTree ws bs ≡ some t → Lands t key d
     go nil w = lands d w Stop.Gap stop tt (longest-nil (bestOf (d .best)) (depth (w .context)) (w .y) (w .r))
     go (node b l num kids rest) w = absurd (omega (arith, w .end-is, nodes-node b l num kids rest))
 
 -- at a node
-module _ {ws bs key : List ℕ} {best : Option (ℕ × ℕ)} (d : Descent) (n : AtNode ws bs key best (d .parent .0) (d .at .0) (d .end .0) (d .above)) where
+module _ {ws bs key : List ℕ} {best : Option (ℕ × ℕ)} {e : ℕ} (d : Descent) (n : AtNode ws bs key best (d .parent .0) (d .at .0) e (d .above)) where
   -- the looks at the node
   seen : List Look
   seen = looksF (depth (n .come .context)) (node (n .b) (n .l) (n .num) (n .kids) (n .rest)) (n .come .y) (n .come .r)

@@ -40,9 +40,9 @@ meetingOf (y ∷ k) (b ∷ l) =
     ]
 
 -- A descent by its parts
-abbrev pub descentOf : Stop → (at end parent above : ℕ) → Best → Descent
-descentOf stop at end parent above best =
-    record { stop = stop; at = record { 0 = at }; end = record { 0 = end }; parent = record { 0 = parent }; above = above; best = best }
+abbrev pub descentOf : Stop → (at parent above : ℕ) → Best → Descent
+descentOf stop at parent above best =
+    record { stop = stop; at = record { 0 = at }; parent = record { 0 = parent }; above = above; best = best }
 
 -- The code's longest prefix as the definition has it
 abbrev pub bestOf : Best → Option (ℕ × ℕ)
@@ -87,7 +87,7 @@ Ends (Stop.Inside m) f y r = InsideAt f y r m
 Ends (Stop.Fork m) f y r = ForkAt f y r m
 
 -- The descent has come to a forest, with y ∷ r left of the key a ∷ k.
-pub record Place (t : Tree) (a : ℕ) (k : Key) (stop : Stop) (at end over above : ℕ) : Type 0 where
+pub record Place (t : Tree) (a : ℕ) (k : Key) (stop : Stop) (at over above : ℕ) : Type 0 where
   pub context : Context
   pub forest : Forest
   pub y : ℕ
@@ -95,20 +95,25 @@ pub record Place (t : Tree) (a : ℕ) (k : Key) (stop : Stop) (at end over above
   pub tree : t .kids ≡ plug context forest
   pub leads : Leads context a k y r
   pub at-is : at ≡ before context
-  pub end-is : end ≡ at + nodesF forest
   pub parent-is : over ≡ parent context
   pub above-is : above ≡ depth context
   pub ends : Ends stop forest y r
 
-abbrev pub PlaceOf : Tree → Key → Stop → (at end over above : ℕ) → Type 0
-PlaceOf t [] Stop.Root at end over above = at ≡ 0
-PlaceOf t [] Stop.Gap at end over above = ⊥
-PlaceOf t [] Stop.Same at end over above = ⊥
-PlaceOf t [] (Stop.Inside m) at end over above = ⊥
-PlaceOf t [] (Stop.Fork m) at end over above = ⊥
-PlaceOf t (a ∷ k) stop at end over above = Place t a k stop at end over above
+-- The empty key ends at the root.
+pub record AtRoot (at over above : ℕ) : Type 0 where
+  pub at-is : at ≡ 0
+  pub parent-is : over ≡ 0
+  pub above-is : above ≡ 0
+
+abbrev pub PlaceOf : Tree → Key → Stop → (at over above : ℕ) → Type 0
+PlaceOf t [] Stop.Root at over above = AtRoot at over above
+PlaceOf t [] Stop.Gap at over above = ⊥
+PlaceOf t [] Stop.Same at over above = ⊥
+PlaceOf t [] (Stop.Inside m) at over above = ⊥
+PlaceOf t [] (Stop.Fork m) at over above = ⊥
+PlaceOf t (a ∷ k) stop at over above = Place t a k stop at over above
 
 -- Where the descent for a key has come to, with the longest stored prefix of the key
 pub record Lands (t : Tree) (key : Key) (d : Descent) : Type 0 where
-  pub place : PlaceOf t key (d .stop) (d .at .0) (d .end .0) (d .parent .0) (d .above)
+  pub place : PlaceOf t key (d .stop) (d .at .0) (d .parent .0) (d .above)
   pub best : bestOf (d .best) ≡ longestT t key

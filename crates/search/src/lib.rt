@@ -5,12 +5,14 @@ ghost use lib.ListN.{length, drop};
 ghost use Rattle.tree.specs.Key.{keyMax};
 ghost use Rattle.tree.specs.Tree.{Tree};
 ghost use Rattle.tree.specs.Search.{met};
-ghost use Rattle.tree.specs.Told.{gotTold, prefixedTold, sharingTold};
-ghost use Rattle.tree.specs.Calls.{numberTold, getCall, longestCall, sharedCall};
+ghost use Rattle.tree.specs.Told.{gotTold};
+ghost use Rattle.tree.specs.Calls.{numberTold};
 ghost use mathlib.Core.Option.{some};
 ghost use Rattle.pool.specs.Layout.{labelOf, numAt};
 ghost use Rattle.pool.specs.Pool.{poolTree};
 ghost use Rattle.pool.specs.Rule.{PoolRule};
+ghost use Rattle.pool.specs.Lent.{before};
+ghost use Rattle.search.specs.Post.{GetAllows, LongestAllows, SharedAllows};
 ghost use Rattle.search.specs.Landing.{descentOf, meetingOf, bestOf, Lands, InPool};
 use label::First;
 use tree::Got;
@@ -55,11 +57,11 @@ pub enum Best {
     At(usize, RuleNo),
 }
 
-// Where a search came to: the slot, the end of its siblings, their parent, the bytes matched above the slot's label.
+// Where a search came to: the slot, its parent, the bytes matched above the slot's label. The empty key ends at the root,
+// which has neither: both are 0 there.
 pub struct Descent {
     pub stop: Stop,
     pub at: Slot,
-    pub end: Slot,
     pub parent: Slot,
     pub above: usize,
     pub best: Best,
@@ -102,13 +104,12 @@ fn best_at(words: &[u32], c: Slot, n: usize, best: Best) -> Best
 }
 
 // A descent by its parts.
-fn landed(stop: Stop, at: Slot, end: Slot, parent: Slot, above: usize, best: Best) -> Descent
-    ensures { λ r. ⌜ r ≡ descentOf stop (at .0) (end .0) (parent .0) above best ⌝ }
+fn landed(stop: Stop, at: Slot, parent: Slot, above: usize, best: Best) -> Descent
+    ensures { λ r. ⌜ r ≡ descentOf stop (at .0) (parent .0) above best ⌝ }
 {
     Descent {
         stop,
         at,
-        end,
         parent,
         above,
         best,
@@ -123,7 +124,7 @@ pub fn descend(labels: &[u8], words: &[u32], key: &[u8]) -> Descent
     let n = pool::nodes_in(words);
     let mut best = best_at(words, Slot(0), 0, Best::None);
     if key.len() == 0 {
-        return landed(Stop::Root, Slot(0), Slot(n), Slot(0), 0, best);
+        return landed(Stop::Root, Slot(0), Slot(0), 0, best);
     }
     let mut parent = Slot(0);
     let mut c: usize = 1;
@@ -131,16 +132,16 @@ pub fn descend(labels: &[u8], words: &[u32], key: &[u8]) -> Descent
     let mut p: usize = 0;
     while c < end {
         match meet(labels, words, Slot(c), key, p) {
-            Meeting::Before => return landed(Stop::Gap, Slot(c), Slot(end), parent, p, best),
+            Meeting::Before => return landed(Stop::Gap, Slot(c), parent, p, best),
             Meeting::Past => c += pool::span_at(words, Slot(c)),
             Meeting::Same => {
                 best = best_at(words, Slot(c), key.len(), best);
-                return landed(Stop::Same, Slot(c), Slot(end), parent, p, best);
+                return landed(Stop::Same, Slot(c), parent, p, best);
             }
             Meeting::Inside(m) => {
-                return landed(Stop::Inside(m), Slot(c), Slot(end), parent, p, best);
+                return landed(Stop::Inside(m), Slot(c), parent, p, best);
             }
-            Meeting::Fork(m) => return landed(Stop::Fork(m), Slot(c), Slot(end), parent, p, best),
+            Meeting::Fork(m) => return landed(Stop::Fork(m), Slot(c), parent, p, best),
             Meeting::Through(m) => {
                 best = best_at(words, Slot(c), p + m, best);
                 parent = Slot(c);
@@ -150,7 +151,7 @@ pub fn descend(labels: &[u8], words: &[u32], key: &[u8]) -> Descent
             }
         }
     }
-    landed(Stop::Gap, Slot(c), Slot(end), parent, p, best)
+    landed(Stop::Gap, Slot(c), parent, p, best)
 }
 
 // The number at a slot.
@@ -167,7 +168,7 @@ fn number_in(words: &[u32], at: Slot) -> Got
 // `get` in a pool that has been tested, of a key that is not too long.
 pub fn get_in(labels: &[u8], words: &[u32], key: &[u8]) -> Got
     requires { ⌜ PoolRule (now words) (now labels) × (length (now key) ≤ keyMax) ⌝ }
-    ensures { λ r. ⌜ gotTold r ≡ getCall (poolTree (now (words .entry)) (now (labels .entry))) (now (key .entry)) ⌝ }
+    ensures { λ r. ⌜ GetAllows (now (key .entry)) r (before labels words) ⌝ }
 {
     let d = descend(labels, words, key);
     let at = d.at;
@@ -183,7 +184,7 @@ pub fn get_in(labels: &[u8], words: &[u32], key: &[u8]) -> Got
 
 // The number at exactly the key.
 pub fn get(labels: &[u8], words: &[u32], key: &[u8]) -> Got
-    ensures { λ r. ⌜ gotTold r ≡ getCall (poolTree (now (words .entry)) (now (labels .entry))) (now (key .entry)) ⌝ }
+    ensures { λ r. ⌜ GetAllows (now (key .entry)) r (before labels words) ⌝ }
 {
     if !pool::is_pool(labels, words) {
         return Got::NotPool;
@@ -197,7 +198,7 @@ pub fn get(labels: &[u8], words: &[u32], key: &[u8]) -> Got
 // `longest` in a pool that has been tested, of a query that is not too long.
 pub fn longest_in(labels: &[u8], words: &[u32], query: &[u8]) -> Prefixed
     requires { ⌜ PoolRule (now words) (now labels) × (length (now query) ≤ keyMax) ⌝ }
-    ensures { λ r. ⌜ prefixedTold r ≡ longestCall (poolTree (now (words .entry)) (now (labels .entry))) (now (query .entry)) ⌝ }
+    ensures { λ r. ⌜ LongestAllows (now (query .entry)) r (before labels words) ⌝ }
 {
     let d = descend(labels, words, query);
     let best = d.best;
@@ -209,7 +210,7 @@ pub fn longest_in(labels: &[u8], words: &[u32], query: &[u8]) -> Prefixed
 
 // Length and number of the longest stored key that starts the query.
 pub fn longest(labels: &[u8], words: &[u32], query: &[u8]) -> Prefixed
-    ensures { λ r. ⌜ prefixedTold r ≡ longestCall (poolTree (now (words .entry)) (now (labels .entry))) (now (query .entry)) ⌝ }
+    ensures { λ r. ⌜ LongestAllows (now (query .entry)) r (before labels words) ⌝ }
 {
     if !pool::is_pool(labels, words) {
         return Prefixed::NotPool;
@@ -223,7 +224,7 @@ pub fn longest(labels: &[u8], words: &[u32], query: &[u8]) -> Prefixed
 // `shared` in a pool that has been tested, of a query that is not too long.
 pub fn shared_in(labels: &[u8], words: &[u32], query: &[u8]) -> Sharing
     requires { ⌜ PoolRule (now words) (now labels) × (length (now query) ≤ keyMax) ⌝ }
-    ensures { λ r. ⌜ sharingTold r ≡ sharedCall (poolTree (now (words .entry)) (now (labels .entry))) (now (query .entry)) ⌝ }
+    ensures { λ r. ⌜ SharedAllows (now (query .entry)) r (before labels words) ⌝ }
 {
     let d = descend(labels, words, query);
     let above = d.above;
@@ -242,7 +243,7 @@ pub fn shared_in(labels: &[u8], words: &[u32], query: &[u8]) -> Sharing
 
 // The greatest number of leading bytes that the query shares with any stored key.
 pub fn shared(labels: &[u8], words: &[u32], query: &[u8]) -> Sharing
-    ensures { λ r. ⌜ sharingTold r ≡ sharedCall (poolTree (now (words .entry)) (now (labels .entry))) (now (query .entry)) ⌝ }
+    ensures { λ r. ⌜ SharedAllows (now (query .entry)) r (before labels words) ⌝ }
 {
     if !pool::is_pool(labels, words) {
         return Sharing::NotPool;

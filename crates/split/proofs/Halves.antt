@@ -70,7 +70,7 @@ module _ {ws bs ws₂ bs₂ : List ℕ} {slots : ℕ} (x : Landed ws bs Stop.Roo
   root-halves : splitT (x .tree) (x .prefix) ≡ halves (x .tree) empty
   root-halves = go (x .prefix) (x .place)
     where
-      go : (p : Key) → PlaceOf (x .tree) p Stop.Root 0 (x .end) 0 (x .above) → splitT (x .tree) p ≡ halves (x .tree) empty
+      go : (p : Key) → PlaceOf (x .tree) p Stop.Root 0 0 (x .above) → splitT (x .tree) p ≡ halves (x .tree) empty
       go [] h = unfold splitT in refl
       go (a ∷ k) h = absurd (h .ends)
 
@@ -163,7 +163,7 @@ module _ {ws bs : List ℕ} {at over : ℕ} (x : Landed ws bs Stop.Same at over)
   same-landing : SameLanding
   same-landing = go (x .prefix) refl (x .place)
     where
-      go : (p : Key) → x .prefix ≡ p → PlaceOf (x .tree) p Stop.Same at (x .end) over (x .above) → SameLanding
+      go : (p : Key) → x .prefix ≡ p → PlaceOf (x .tree) p Stop.Same at over (x .above) → SameLanding
       go [] e h = absurd h
       go (a ∷ k) e p =
           let C = p .context in
@@ -248,7 +248,7 @@ module _ {ws bs : List ℕ} {m at over : ℕ} (x : Landed ws bs (Stop.Inside m) 
   inside-landing : InsideLanding
   inside-landing = go (x .prefix) refl (x .place)
     where
-      go : (p : Key) → x .prefix ≡ p → PlaceOf (x .tree) p (Stop.Inside m) at (x .end) over (x .above) → InsideLanding
+      go : (p : Key) → x .prefix ≡ p → PlaceOf (x .tree) p (Stop.Inside m) at over (x .above) → InsideLanding
       go [] e h = absurd h
       go (a ∷ k) e p =
           let C = p .context in
@@ -344,7 +344,7 @@ module _ {ws bs key : List ℕ} {d : Descent} (w : Known ws bs key d) {ws₂ bs�
   pub gap-absent : d .stop ≡ Stop.Gap → MeetBoth (splitCall (poolTree ws bs) (slotsOf ws₂ bs₂) key) (refusal 3) ws bs ws₂ bs₂ ws bs ws₂ bs₂
   gap-absent e = not-found ws bs ws₂ bs₂ (tree w) key slots (tree-is w) (w .short) l₂ (go key (place w Stop.Gap e))
     where
-      go : (q : Key) → PlaceOf (tree w) q Stop.Gap (d .at .0) (d .end .0) (d .parent .0) (d .above) → splitT (tree w) q ≡ absent
+      go : (q : Key) → PlaceOf (tree w) q Stop.Gap (d .at .0) (d .parent .0) (d .above) → splitT (tree w) q ≡ absent
       go [] p = absurd p
       go (a ∷ k) p =
           split-none (tree w) a k
@@ -353,7 +353,7 @@ module _ {ws bs key : List ℕ} {d : Descent} (w : Known ws bs key d) {ws₂ bs�
   pub fork-absent : (m : ℕ) → d .stop ≡ Stop.Fork m → MeetBoth (splitCall (poolTree ws bs) (slotsOf ws₂ bs₂) key) (refusal 3) ws bs ws₂ bs₂ ws bs ws₂ bs₂
   fork-absent m e = not-found ws bs ws₂ bs₂ (tree w) key slots (tree-is w) (w .short) l₂ (go key (place w (Stop.Fork m) e))
     where
-      go : (q : Key) → PlaceOf (tree w) q (Stop.Fork m) (d .at .0) (d .end .0) (d .parent .0) (d .above) → splitT (tree w) q ≡ absent
+      go : (q : Key) → PlaceOf (tree w) q (Stop.Fork m) (d .at .0) (d .parent .0) (d .above) → splitT (tree w) q ≡ absent
       go [] p = absurd p
       go (a ∷ k) p =
           let n = p .ends in
@@ -368,15 +368,15 @@ module _ {ws bs key : List ℕ} {d : Descent} (w : Known ws bs key d) {ws₂ bs�
 -- Where the search has ended
 module _ {ws bs key : List ℕ} {d : Descent} (w : Known ws bs key d) where
   -- a place that the search has come to, as the code is handed it
-  abbrev landing : (s : Stop) (at over : ℕ) → PlaceOf (tree w) key s at (d .end .0) over (d .above) → Landed ws bs s at over
+  abbrev landing : (s : Stop) (at over : ℕ) → PlaceOf (tree w) key s at over (d .above) → Landed ws bs s at over
   landing s at over p =
-      record { tree = tree w; is = tree-is w; bytes = w .bytes; prefix = key; short = w .short; end = d .end .0; above = d .above; place = p }
+      record { tree = tree w; is = tree-is w; bytes = w .bytes; prefix = key; short = w .short; above = d .above; place = p }
 
   unfoldable pub landed : (s : Stop) → d .stop ≡ s → Landed ws bs s (d .at .0) (d .parent .0)
   landed s e = landing s (d .at .0) (d .parent .0) (place w s e)
 
-  pub root-place : (q : Key) → PlaceOf (tree w) q Stop.Root (d .at .0) (d .end .0) (d .parent .0) (d .above) → PlaceOf (tree w) q Stop.Root 0 (d .end .0) 0 (d .above)
-  root-place [] p = refl
+  pub root-place : (q : Key) → PlaceOf (tree w) q Stop.Root (d .at .0) (d .parent .0) (d .above) → PlaceOf (tree w) q Stop.Root 0 0 (d .above)
+  root-place [] p = record { at-is = refl; parent-is = refl; above-is = p .above-is }
   root-place (a ∷ k) p = absurd (p .ends)
 
   unfoldable pub landed-root : d .stop ≡ Stop.Root → Landed ws bs Stop.Root 0 0

@@ -21,9 +21,8 @@ pub record Landed (ws bs : List ℕ) (stop : Stop) (at over : ℕ) : Type 0 wher
   pub bytes : Bytes bs
   pub prefix : Key
   pub short : length prefix ≤ keyMax
-  pub end : ℕ
   pub above : ℕ
-  pub place : PlaceOf tree prefix stop at end over above
+  pub place : PlaceOf tree prefix stop at over above
 
 -- A slot that can be carried over with all that is below it
 pub record Detachable (ws bs : List ℕ) (at : ℕ) : Type 0 where

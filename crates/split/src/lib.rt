@@ -4,17 +4,15 @@ ghost use mathlib.Core.Path.{_≡_};
 ghost use Prim.Native.Nat.{ℕ, _+_, _*_, _-_, _≤_, _<_};
 ghost use lib.ListN.{length};
 ghost use Rattle.tree.specs.Key.{keyMax};
-ghost use Rattle.tree.specs.Told.{dividedTold};
-ghost use Rattle.tree.specs.Calls.{splitCall};
 ghost use Rattle.pool.specs.Layout.{startOf, lenOf, spanOf};
 ghost use Rattle.pool.specs.Records.{recAt};
 ghost use Rattle.pool.specs.Put.{SlotPut};
-ghost use Rattle.pool.specs.Pool.{poolTree, slotsOf};
+ghost use Rattle.pool.specs.Lent.{before, after};
 ghost use Rattle.pool.specs.Rule.{Within, Lengths, PoolRule};
 ghost use Rattle.search.specs.declared.Stop.{Stop};
 ghost use Rattle.split.specs.Lift.{carried, lowered, topped, Liftable, Lifted, Rooted, Detached, DetachedBelow};
 ghost use Rattle.split.specs.Halved.{Landed, Detachable, Leaving};
-ghost use Rattle.split.specs.Post.{MeetBoth};
+ghost use Rattle.split.specs.Post.{SplitAllows};
 ghost use Rattle.tidy.specs.Climb.{Tidied};
 use pool::Sized;
 use pool::put::Head;
@@ -200,7 +198,11 @@ fn split_root(
     room: usize,
 ) -> Divided
     requires { ⌜ Landed (now words) (now labels) Stop.Root 0 0 × Lengths (now words2) (now labels2) room ⌝ }
-    ensures { λ r. ⌜ ((x : Landed (now (words .entry)) (now (labels .entry)) Stop.Root 0 0) → MeetBoth (splitCall (poolTree (now (words .entry)) (now (labels .entry))) (slotsOf (now (words2 .entry)) (now (labels2 .entry))) (x .prefix)) (dividedTold r) (now (words .entry)) (now (labels .entry)) (now (words2 .entry)) (now (labels2 .entry)) (now (words .exit)) (now (labels .exit)) (now (words2 .exit)) (now (labels2 .exit))) ⌝ }
+    ensures { λ r. do
+      let was = before labels words
+      let was₂ = before labels2 words2
+      ⌜ ((x : Landed (was .words) (was .labels) Stop.Root 0 0)
+          → SplitAllows (x .prefix) r was was₂ (after labels words) (after labels2 words2)) ⌝ }
 {
     if pool::nodes_in(words) > room {
         return Divided::NoRoom;
@@ -221,7 +223,11 @@ fn split_node(
     room: usize,
 ) -> Divided
     requires { ⌜ Landed (now words) (now labels) Stop.Same (at .0) (parent .0) × Lengths (now words2) (now labels2) room ⌝ }
-    ensures { λ r. ⌜ ((x : Landed (now (words .entry)) (now (labels .entry)) Stop.Same (at .0) (parent .0)) → MeetBoth (splitCall (poolTree (now (words .entry)) (now (labels .entry))) (slotsOf (now (words2 .entry)) (now (labels2 .entry))) (x .prefix)) (dividedTold r) (now (words .entry)) (now (labels .entry)) (now (words2 .entry)) (now (labels2 .entry)) (now (words .exit)) (now (labels .exit)) (now (words2 .exit)) (now (labels2 .exit))) ⌝ }
+    ensures { λ r. do
+      let was = before labels words
+      let was₂ = before labels2 words2
+      ⌜ ((x : Landed (was .words) (was .labels) Stop.Same (at .0) (parent .0))
+          → SplitAllows (x .prefix) r was was₂ (after labels words) (after labels2 words2)) ⌝ }
 {
     if pool::span_at(words, at) > room {
         return Divided::NoRoom;
@@ -243,7 +249,11 @@ fn split_label(
     room: usize,
 ) -> Divided
     requires { ⌜ Landed (now words) (now labels) (Stop.Inside m) (at .0) (parent .0) × Lengths (now words2) (now labels2) room ⌝ }
-    ensures { λ r. ⌜ ((x : Landed (now (words .entry)) (now (labels .entry)) (Stop.Inside m) (at .0) (parent .0)) → MeetBoth (splitCall (poolTree (now (words .entry)) (now (labels .entry))) (slotsOf (now (words2 .entry)) (now (labels2 .entry))) (x .prefix)) (dividedTold r) (now (words .entry)) (now (labels .entry)) (now (words2 .entry)) (now (labels2 .entry)) (now (words .exit)) (now (labels .exit)) (now (words2 .exit)) (now (labels2 .exit))) ⌝ }
+    ensures { λ r. do
+      let was = before labels words
+      let was₂ = before labels2 words2
+      ⌜ ((x : Landed (was .words) (was .labels) (Stop.Inside m) (at .0) (parent .0))
+          → SplitAllows (x .prefix) r was was₂ (after labels words) (after labels2 words2)) ⌝ }
 {
     if pool::span_at(words, at) >= room {
         return Divided::NoRoom;
@@ -263,7 +273,10 @@ fn split_in(
     room: usize,
 ) -> Divided
     requires { ⌜ PoolRule (now words) (now labels) × (length (now prefix) ≤ keyMax) × Lengths (now words2) (now labels2) room ⌝ }
-    ensures { λ r. ⌜ MeetBoth (splitCall (poolTree (now (words .entry)) (now (labels .entry))) (slotsOf (now (words2 .entry)) (now (labels2 .entry))) (now (prefix .entry))) (dividedTold r) (now (words .entry)) (now (labels .entry)) (now (words2 .entry)) (now (labels2 .entry)) (now (words .exit)) (now (labels .exit)) (now (words2 .exit)) (now (labels2 .exit)) ⌝ }
+    ensures { λ r. do
+      let was = before labels words
+      let was₂ = before labels2 words2
+      ⌜ SplitAllows (now (prefix .entry)) r was was₂ (after labels words) (after labels2 words2) ⌝ }
 {
     let d = search::descend(labels, words, prefix);
     let at = d.at;
@@ -286,7 +299,10 @@ pub fn split(
     labels2: &mut [u8],
     words2: &mut [u32],
 ) -> Divided
-    ensures { λ r. ⌜ MeetBoth (splitCall (poolTree (now (words .entry)) (now (labels .entry))) (slotsOf (now (words2 .entry)) (now (labels2 .entry))) (now (prefix .entry))) (dividedTold r) (now (words .entry)) (now (labels .entry)) (now (words2 .entry)) (now (labels2 .entry)) (now (words .exit)) (now (labels .exit)) (now (words2 .exit)) (now (labels2 .exit)) ⌝ }
+    ensures { λ r. do
+      let was = before labels words
+      let was₂ = before labels2 words2
+      ⌜ SplitAllows (now (prefix .entry)) r was was₂ (after labels words) (after labels2 words2) ⌝ }
 {
     if !pool::is_pool(labels, words) {
         return Divided::NotPool;

@@ -33,23 +33,23 @@ tree t = holds (pairsT t) (nodesT t)
 -- what a call tells, and the tree that it leaves
 abbrev tells : Outcome → Shown
 tells (refuses x) = told x
-tells (leaves x t) = told x
+tells (leaves vs t) = told (done vs)
 
 abbrev after : Outcome → Shown
 after (refuses x) = told x
-after (leaves x t) = tree t
+after (leaves vs t) = tree t
 
 abbrev image : Outcome → Shown
 image (refuses x) = told x
-image (leaves x t) = written t
+image (leaves vs t) = written t
 
 abbrev second : SplitOutcome → Shown
 second (refusesBoth x) = told x
-second (leavesBoth x d u) = tree d
+second (leavesBoth d u) = tree d
 
 abbrev first : SplitOutcome → Shown
 first (refusesBoth x) = told x
-first (leavesBoth x d u) = tree u
+first (leavesBoth d u) = tree u
 
 -- bytes of keys
 abbrev a : ℕ

@@ -31,11 +31,11 @@ All [] = Unit {0}
 All (r ∷ rs) = Holds r × All rs
 
 -- A rule holds or fails.
-data Decided (r : Rule) : Type 0 where
+pub data Decided (r : Rule) : Type 0 where
   holds : Holds r → Decided r
   fails : Fails r → Decided r
 
-decide : (r : Rule) → Decided r
+pub decide : (r : Rule) → Decided r
 decide (atMost a b x) = by (leb a b) refl
   where
     by : (t : Bool) → leb a b ≡ t → Decided (atMost a b x)

@@ -27,6 +27,8 @@ pub mod Next
 pub mod ReaderRules
 pub mod ReaderParts
 pub mod ReaderSteps
+pub mod Refusals
+pub mod Accepted
 pub mod ReaderStands
 pub mod ReaderSound
 pub mod ReaderComplete

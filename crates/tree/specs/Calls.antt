@@ -19,15 +19,24 @@ use Rattle.tree.specs.Image.{imageT, numbersT, numbersW, levelT}
 use Rattle.tree.specs.Reader.{Verdict, refusedWith, ok, readT}
 use Rattle.tree.specs.Told.{Told, done, refusal, refusalAt}
 
--- A call that changes a pool either refuses, and every lent byte and word stays, or is done and leaves a tree.
+-- A call that changes a pool either refuses, and every lent byte and word stays, or is done: then it tells 0 with these
+-- values, and leaves a tree.
 pub data Outcome : Type 0 where
   refuses : Told → Outcome
-  leaves : Told → Tree → Outcome
+  leaves : (values : List ℕ) → Tree → Outcome
 
--- A split leaves two.
+abbrev pub outcomeTold : Outcome → Told
+outcomeTold (refuses x) = x
+outcomeTold (leaves vs t) = done vs
+
+-- A split leaves two, and tells nothing besides.
 pub data SplitOutcome : Type 0 where
   refusesBoth : Told → SplitOutcome
-  leavesBoth : Told → (detached left : Tree) → SplitOutcome
+  leavesBoth : (detached left : Tree) → SplitOutcome
+
+abbrev pub bothTold : SplitOutcome → Told
+bothTold (refusesBoth x) = x
+bothTold (leavesBoth d u) = done []
 
 -- 2 for a key over 4,096 bytes
 unfoldable pub fits : Key → Bool
@@ -35,11 +44,11 @@ fits k = leb (length k) keyMax
 
 unfoldable pub makeCall : (slots : Option ℕ) → Outcome
 makeCall none = refuses (refusal 1)
-makeCall (some s) = leaves (done []) empty
+makeCall (some s) = leaves [] empty
 
 unfoldable pub clearCall : Option Tree → Outcome
 clearCall none = refuses (refusal 1)
-clearCall (some t) = leaves (done []) (clearT t)
+clearCall (some t) = leaves [] (clearT t)
 
 unfoldable pub countsCall : Option Tree → Told
 countsCall none = refusal 1
@@ -74,13 +83,13 @@ insertCall (some t) slots k v =
       | true ↦
           elim (leb (nodesT (insertT t k v)) slots) [
             | false ↦ refuses (refusal 4)
-            | true ↦ leaves (done (numbersW (getT t k) [])) (insertT t k v)
+            | true ↦ leaves (numbersW (getT t k) []) (insertT t k v)
           ]
     ]
 
 unfoldable pub removeTold : Num → Option Tree → Outcome
 removeTold w none = refuses (refusal 3)
-removeTold w (some u) = leaves (numberTold w) u
+removeTold w (some u) = leaves (numbersW w []) u
 
 unfoldable pub removeCall : Option Tree → Key → Outcome
 removeCall none k = refuses (refusal 1)
@@ -88,7 +97,7 @@ removeCall (some t) k = elim (fits k) [ false ↦ refuses (refusal 2) | true ↦
 
 unfoldable pub splitTold : (slots : ℕ) → Halves → SplitOutcome
 splitTold slots absent = refusesBoth (refusal 3)
-splitTold slots (halves d u) = elim (leb (nodesT d) slots) [ false ↦ refusesBoth (refusal 4) | true ↦ leavesBoth (done []) d u ]
+splitTold slots (halves d u) = elim (leb (nodesT d) slots) [ false ↦ refusesBoth (refusal 4) | true ↦ leavesBoth d u ]
 
 -- Split tests the first pool, then the second pool's lengths, then the rest. No room speaks of the second pool.
 unfoldable pub splitCall : Option Tree → (slots : Option ℕ) → Key → SplitOutcome
@@ -130,7 +139,7 @@ writeCall (some t) bytes numbers =
 
 unfoldable pub readTold : Verdict → Outcome
 readTold (refusedWith x) = refuses x
-readTold (ok t) = leaves (done []) t
+readTold (ok t) = leaves [] t
 
 unfoldable pub readCall : (slots : Option ℕ) (s ns : List ℕ) → Outcome
 readCall none s ns = refuses (refusal 1)

@@ -1,6 +1,6 @@
 -- The contracts decide what a new walk and a step answer and leave: two results that they allow agree. Of a walk its prefix and
 -- its last key count; the bytes of its arrays behind them are free. Assumes nothing.
-use mathlib.Core.Path.{_≡_, sym, ap, _∙_}
+use mathlib.Core.Path.{_≡_, refl, sym, ap, _∙_}
 use mathlib.Core.List.{List}
 use mathlib.Core.Option.{Option, none, some}
 use Prim.Native.Nat.{ℕ, zero, suc, _≤_, _<_}
@@ -10,6 +10,7 @@ use Rattle.tree.specs.Key.{Key, keyMax}
 use Rattle.tree.specs.Map.{Pair}
 use Rattle.tree.specs.Tree.{Tree}
 use Rattle.tree.specs.Told.{Told, refusal, steppedTold}
+use Rattle.tree.proofs.OneAnswer.{stepped-one}
 use Rattle.walk.specs.declared.Walk.{Walk}
 use Rattle.walk.specs.declared.Step.{Step}
 use Rattle.walk.specs.Walks.{prefixOf, lastOf, Begins, Leaves, stepOf, Steps}
@@ -27,21 +28,35 @@ begins-decided h a b = record { prefix = a .prefix h ∙ sym (b .prefix h); last
 pub begins-long : {t : Tree} {p : Key} {w : Walk} {r : Step} {out out′ : List ℕ} → 4096 < length p → Begins p w → Steps (some t) w r out out′ → steppedTold (r .answer) ≡ refusal 2
 begins-long {t} {p} {w} {r} {out} h b s = s .said ∙ sym (call-prefix t (prefixOf w) (lastOf w) (length out) (fits-long (prefixOf w) (omega (arith, b .len))))
 
-leaves-decided : (n : ℕ) (x : Option Pair) (w u v : Walk) (out a b : List ℕ) → Leaves n x w u out a → Leaves n x w v out b → Alike u v × (a ≡ b)
-leaves-decided zero (some x) w u v out a b p q = (record { prefix = p .prefix ∙ sym (q .prefix); last = p .last ∙ sym (q .last) }, p .bytes ∙ sym (q .bytes))
+-- what is left by the number told
+record Left (n : ℕ) (u v : Walk) (a b : List ℕ) : Type 0 where
+  walk : Alike u v
+  kept : ¬ (n ≡ 0) → u ≡ v
+  out : a ≡ b
+
+leaves-decided : (n : ℕ) (x : Option Pair) (w u v : Walk) (out a b : List ℕ) → Leaves n x w u out a → Leaves n x w v out b → Left n u v a b
+leaves-decided zero (some x) w u v out a b p q =
+    record {
+      walk = record { prefix = p .prefix ∙ sym (q .prefix); last = p .last ∙ sym (q .last) };
+      kept = λ h. absurd (h refl);
+      out = p .bytes ∙ sym (q .bytes);
+    }
 leaves-decided zero none w u v out a b p q = absurd p
 leaves-decided (suc n) x w u v out a b p q =
     let e = p .walk ∙ sym (q .walk) in
-    (record { prefix = ap prefixOf e; last = ap lastOf e }, p .bytes ∙ sym (q .bytes))
+    record { walk = record { prefix = ap prefixOf e; last = ap lastOf e }; kept = λ h. e; out = p .bytes ∙ sym (q .bytes) }
 
+-- Two steps agree: in the answer, in what the walk handed on stands for, and in every byte of the output; a refused walk is
+-- the one that was handed in.
 pub record Same (r s : Step) (a b : List ℕ) : Type 0 where
-  pub told : steppedTold (r .answer) ≡ steppedTold (s .answer)
+  pub answer : r .answer ≡ s .answer
   pub walk : Alike (r .walk) (s .walk)
+  pub kept : ¬ (steppedTold (r .answer) .number ≡ 0) → r .walk ≡ s .walk
   pub out : a ≡ b
 
-pub decided : {o : Option Tree} {w : Walk} {r s : Step} {out a b : List ℕ} → Steps o w r out a → Steps o w s out b → Same r s a b
-decided {o} {w} {r} {s} {out} {a} {b} p q =
+pub step-determined : {o : Option Tree} {w : Walk} {r s : Step} {out a b : List ℕ} → Steps o w r out a → Steps o w s out b → Same r s a b
+step-determined {o} {w} {r} {s} {out} {a} {b} p q =
     let e : steppedTold (r .answer) ≡ steppedTold (s .answer) = p .said ∙ sym (q .said) in
     let n : steppedTold (s .answer) .number ≡ steppedTold (r .answer) .number = ap (λ (z : Told). z .number) (sym e) in
     let l = leaves-decided (steppedTold (r .answer) .number) (stepOf o (prefixOf w) (lastOf w)) w (r .walk) (s .walk) out a b (p .left) (rw n at (q .left)) in
-    record { told = e; walk = l .0; out = l .1 }
+    record { answer = stepped-one (r .answer) (s .answer) e; walk = l .walk; kept = l .kept; out = l .out }

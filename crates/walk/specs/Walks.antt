@@ -11,6 +11,7 @@ use Rattle.tree.specs.Tree.{Tree}
 use Rattle.tree.specs.Walk.{stepT}
 use Rattle.tree.specs.Told.{steppedTold}
 use Rattle.tree.specs.Calls.{stepCall}
+use Rattle.pool.specs.Lent.{Lent, treeIn}
 use Rattle.writer.specs.Post.{front}
 use Rattle.walk.specs.Due.{lastIf}
 use Rattle.walk.specs.declared.Walk.{Walk}
@@ -61,3 +62,7 @@ stepOf (some t) p l = stepT t p l
 pub record Steps (o : Option Tree) (w : Walk) (r : Step) (out out′ : List ℕ) : Type 0 where
   pub said : steppedTold (r .answer) ≡ stepCall o (prefixOf w) (lastOf w) (length out)
   pub left : Leaves (steppedTold (r .answer) .number) (stepOf o (prefixOf w) (lastOf w)) w (r .walk) out out′
+
+-- What a step allows: an answer with the walk handed on, and the output that it leaves
+abbrev pub StepAllows : Walk → Step → Lent → (out out′ : List ℕ) → Type 0
+StepAllows w r was out out′ = Steps (treeIn was) w r out out′

@@ -8,10 +8,10 @@ ghost use lib.ListN.{length};
 ghost use Rattle.tree.specs.Key.{keyMax, pick};
 ghost use Rattle.tree.specs.Map.{past};
 ghost use Rattle.pool.specs.Layout.{hasOf};
-ghost use Rattle.pool.specs.Pool.{poolTree};
+ghost use Rattle.pool.specs.Lent.{before};
 ghost use Rattle.pool.specs.Rule.{PoolRule};
 ghost use Rattle.walk.specs.Due.{lastIf, due, GivesKey, LayRoom, Laid, Sought};
-ghost use Rattle.walk.specs.Walks.{handedOn, Begins, Steps};
+ghost use Rattle.walk.specs.Walks.{handedOn, Begins, StepAllows};
 use tree::RuleNo;
 use tree::Slot;
 use tree::Stepped;
@@ -171,7 +171,7 @@ impl Walk {
     // The next key under the prefix, at the front of the output, with its length and number; and the walk handed on.
     // Counterpart: a step of the iterator over `iter_descendant`.
     pub fn step(self, labels: &[u8], words: &[u32], out: &mut [u8]) -> Step
-        ensures { λ r. ⌜ Steps (poolTree (now (words .entry)) (now (labels .entry))) self r (now (out .entry)) (now (out .exit)) ⌝ }
+        ensures { λ r. ⌜ StepAllows self r (before labels words) (now (out .entry)) (now (out .exit)) ⌝ }
     {
         if !pool::is_pool(labels, words) {
             return refused(Stepped::NotPool, self);

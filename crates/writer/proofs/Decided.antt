@@ -4,11 +4,12 @@ use mathlib.Core.List.{List}
 use mathlib.Core.Option.{Option}
 use Prim.Native.Nat.{ℕ}
 use Rattle.tree.specs.Tree.{Tree}
-use Rattle.tree.specs.Told.{Told, writtenTold}
+use Rattle.tree.specs.Told.{Told}
 use Rattle.tree.specs.Image.{imageT, numbersT}
 use Rattle.tree.specs.declared.Written.{Written}
 use Rattle.tree.proofs.OneAnswer.{written-one}
-use Rattle.writer.specs.Post.{after, Writes}
+use Rattle.pool.specs.Lent.{Lent}
+use Rattle.writer.specs.Post.{after, Writes, WriteAllows}
 
 -- Two results that it allows agree.
 pub record Same (x y : Told) (a b c d : List ℕ) : Type 0 where
@@ -26,5 +27,10 @@ decided {o} {x} {y} {tree} {numbers} {a} {b} {c} {d} p q =
     }
 
 -- And so does the code's answer.
-pub write-determined : {o : Option Tree} (r s : Written) {tree numbers a b c d : List ℕ} → Writes o (writtenTold r) tree numbers a b → Writes o (writtenTold s) tree numbers c d → r ≡ s
-write-determined r s p q = written-one r s (decided p q .told)
+pub record Determined (r s : Written) (a b c d : List ℕ) : Type 0 where
+  pub answer : r ≡ s
+  pub tree : a ≡ c
+  pub numbers : b ≡ d
+
+pub write-determined : (was : Lent) (r s : Written) {tree numbers a b c d : List ℕ} → WriteAllows r was tree numbers a b → WriteAllows s was tree numbers c d → Determined r s a b c d
+write-determined was r s p q = let e = decided p q in record { answer = written-one r s (e .told); tree = e .tree; numbers = e .numbers }

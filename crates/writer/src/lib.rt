@@ -6,10 +6,9 @@ ghost use Prim.Native.Nat.{_+_, _*_, _≤_, max};
 ghost use lib.ListN.{length};
 ghost use lib.Seq.{sets};
 ghost use Rattle.tree.specs.Image.{numbersW};
-ghost use Rattle.tree.specs.Told.{writtenTold};
 ghost use Rattle.pool.specs.Layout.{numAt};
-ghost use Rattle.pool.specs.Pool.{poolTree};
-ghost use Rattle.writer.specs.Post.{Writes};
+ghost use Rattle.pool.specs.Lent.{before};
+ghost use Rattle.writer.specs.Post.{WriteAllows};
 ghost use Rattle.writer.specs.Parts.{recordAt, recordSum, numbersIn};
 ghost use Rattle.writer.specs.Runs.{Reads, Room, Put, RecordRoom, TreeRoom, Deepest, RunPut, TreePut};
 use tree::Level;
@@ -171,7 +170,9 @@ fn write_numbers(words: &[u32], n: usize, out: &mut [u32])
 // Writes the image of the pool's tree: each output has its part at the front, and with any refusal both stay as they
 // were. Both lengths are known and tested before anything is written. Counterpart: `Node::serialize`.
 pub fn write(labels: &[u8], words: &[u32], tree: &mut [u8], numbers: &mut [u32]) -> Written
-    ensures { λ r. ⌜ Writes (poolTree (now (words .entry)) (now (labels .entry))) (writtenTold r) (now (tree .entry)) (now (numbers .entry)) (now (tree .exit)) (now (numbers .exit)) ⌝ }
+    ensures { λ r. do
+      let was = before labels words
+      ⌜ WriteAllows r was (now (tree .entry)) (now (numbers .entry)) (now (tree .exit)) (now (numbers .exit)) ⌝ }
 {
     if !pool::is_pool(labels, words) {
         return Written::NotPool;

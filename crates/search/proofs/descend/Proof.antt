@@ -35,7 +35,7 @@ bytes : (c : tie.After-shared-slice-known Inv-loop μ-loop) → Bytes (c .before
 bytes c = bytes-of (c .before .args .labels .now) (c .shared-slice-known .given)
 
 returns : tie.Need-returns Inv-loop μ-loop
-returns c = rw (c .landed .ensures) (lands-root _ _ _ (c .before .before .before .before .before .before .before .pre .0) (bytes (c .before .before .before .before .before .before)) _ (c .before .if1 .taken) refl refl (c .before .before .best-at .ensures))
+returns c = rw (c .landed .ensures) (lands-root _ _ _ (c .before .before .before .before .before .before .before .pre .0) (bytes (c .before .before .before .before .before .before)) _ (c .before .if1 .taken) refl (record { at-is = refl; parent-is = refl; above-is = refl }) (c .before .before .best-at .ensures))
 
 loop-holds : tie.Need-loop-holds Inv-loop μ-loop
 loop-holds c = seek-start _ _ _ (c .before .before .before .before .before .before .pre .0) (bytes (c .before .before .before .before .before)) _ _ (c .before .before .nodes-in .ensures .0) (c .before .best-at .ensures) (c .if1 .left)
