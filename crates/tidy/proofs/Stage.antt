@@ -244,8 +244,13 @@ module _ {ws bs : List ℕ} {t final : Tree} {vs cs us ds es : List ℕ} {n r : 
       })
 
 -- what the code asks of the buffers then
-pub climbed-bounds : {ws bs : List ℕ} {t final : Tree} {vs cs : List ℕ} → Holds ws bs t → Stage ws bs t final vs cs 0
-    → (1 ≤ nodesOf vs) × (6 * nodesOf vs + 8 ≤ length vs) × (255 * nodesOf vs ≤ length cs) × (nodesOf vs ≤ 16384)
+pub record Bounds (vs cs : List ℕ) : Type 0 where
+  pub least : 1 ≤ nodesOf vs
+  pub most : nodesOf vs ≤ 16384
+  pub words : 6 * nodesOf vs + 8 ≤ length vs
+  pub labels : 255 * nodesOf vs ≤ length cs
+
+pub climbed-bounds : {ws bs : List ℕ} {t final : Tree} {vs cs : List ℕ} → Holds ws bs t → Stage ws bs t final vs cs 0 → Bounds vs cs
 climbed-bounds {ws} {bs} {t} h g =
     let k = g .kept in
     let l = h .lengths in

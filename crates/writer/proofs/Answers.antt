@@ -103,8 +103,8 @@ module _ {ws bs : List ℕ} {n : ℕ} (k : Known ws bs n) where
   pub tree-room : (tree : List ℕ) {bytes : ℕ} → bytes ≡ recordSum ws n → bytes ≤ length tree → TreeRoom ws bs tree
   tree-room tree e h = record { tree = k .tree; holds = k .is; fits = omega (arith, bytes-are e) }
 
-  pub numbers-room : (numbers : List ℕ) {keys : ℕ} → keys ≡ hasSum ws n → keys ≤ length numbers → length (numbersIn ws n) ≤ length numbers
-  numbers-room numbers e h = omega (arith, keys-are e, ap length all-numbers)
+  pub numbers-counted : length (numbersIn ws n) ≡ hasSum ws n
+  numbers-counted = omega (arith, keys-are refl, ap length all-numbers)
 
   -- a refusal leaves both outputs
   stays : (tree numbers : List ℕ) (m : ℕ) (vs : List ℕ) → record { number = suc m; values = vs } ≡ writeCall (some (k .tree)) (length tree) (length numbers)

@@ -1,5 +1,6 @@
--- `walk::Walk::step` meets its contract: each answer by the tests that led to it. Assumes nothing.
-use mathlib.Core.Path.{refl, sym, _∙_}
+-- `walk::Walk::step` meets its contract: each answer by the tests that led to it, which are searched for among the places
+-- before. Assumes nothing.
+use mathlib.Core.Path.{sym, _∙_}
 use lib.ListN.{length-map}
 use lib.Seq.{length-take-le}
 use borrow.Author.Tests.{not-true, not-false}
@@ -14,12 +15,16 @@ rule-at : (c : tie.Else1) → let a = c .before .before .before .before .before 
 rule-at c = c .before .is-pool .ensures .yes (not-false _ (c .if1 .left))
 
 -- what the tests have said before the search
-asked : (c : tie.Else3) → let a = c .before .before .before .before .before .before .before .before .before .before .args in Asked (a .words .now) (a .labels .now) (a .self) (c .before .before .last-length .result)
+asked : (c : tie.Else3)
+    → let pool = c .before .before .before .before .before in
+    let a = pool .before .before .before .before .before .args in
+    Asked (a .words .now) (a .labels .now) (a .self) (c .before .before .last-length .result)
 asked c =
-    let start = c .before .before .before .before .before .before .before .before .before .before in
+    let pool = c .before .before .before .before .before in
+    let start = pool .before .before .before .before .before in
     let fields = start .good .0 .1 .1 in
     record {
-      rule = rule-at (c .before .before .before .before .before);
+      rule = rule-at pool;
       prefix = c .before .if2 .left;
       last = c .if3 .left;
       len = c .before .before .last-length .ensures;
@@ -31,46 +36,46 @@ returns : tie.Need-returns
 returns c = step-refused _ _ (c .before .before .is-pool .ensures .no (not-true _ (c .before .if1 .taken))) (c .refused .ensures)
 
 returns-2 : tie.Need-returns-2
-returns-2 c = step-prefix _ _ (rule-at (c .before .before .before .before .before)) (c .before .if2 .taken) (c .refused2 .ensures)
+returns-2 c = search (rule-at, step-prefix)
 
 returns-3 : tie.Need-returns-3
-returns-3 c = step-last _ _ (rule-at (c .before .before .before .before .before .before)) (c .before .before .if2 .left) (c .before .before .before .last-length .ensures) (c .before .if3 .taken) (c .refused3 .ensures)
+returns-3 c = search (rule-at, step-last)
 
 array-share-prefix-prefix : tie.Need-array-share-prefix-prefix
-array-share-prefix-prefix c = prefix-inside (asked (c .before))
+array-share-prefix-prefix c = prefix-inside (asked (search))
 
 slice-aggregate-seek : tie.Need-slice-aggregate-seek
-slice-aggregate-seek c = sym (length-take-le _ _ (prefix-inside (asked (c .before .before))))
+slice-aggregate-seek c = sym (length-take-le _ _ (prefix-inside (asked (search))))
 
 array-share-prefix-last : tie.Need-array-share-prefix-last
-array-share-prefix-last c = last-inside (asked (c .before .before))
+array-share-prefix-last c = last-inside (asked (search))
 
 slice-aggregate-seek-2 : tie.Need-slice-aggregate-seek-2
-slice-aggregate-seek-2 c = sym (length-take-le _ _ (last-inside (asked (c .before .before .before))))
+slice-aggregate-seek-2 c = sym (length-take-le _ _ (last-inside (asked (search))))
 
 seek-requires : tie.Need-seek-requires
-seek-requires c κs = (asked (c .before .before .before .before) .rule, c .before .before .before .blank .ensures)
+seek-requires c κs = (asked (search) .rule, c .before .before .before .blank .ensures)
 
 returns-4 : tie.Need-returns-4
-returns-4 c = step-ended (asked (c .before .before .before .before .before .before .before .before .before)) _ (c .before .before .before .before .seek .ensures) (c .before .enum-told .given .1) (c .refused4 .ensures)
+returns-4 c = search (asked, step-ended)
 
 returns-5 : tie.Need-returns-5
-returns-5 c = step-short (asked (c .before .before .before .before .before .before .before .before .before .before .before)) _ (c .before .before .before .before .before .before .seek .ensures) (c .before .before .before .found .given .1) (c .before .if4 .taken) (c .refused5 .ensures)
+returns-5 c = search (asked, step-short)
 
 slice-aggregate-copy : tie.Need-slice-aggregate-copy
 slice-aggregate-copy c = sym (length-take-le _ _ (c .before .if4 .left))
 
 array-share-prefix-path : tie.Need-array-share-prefix-path
-array-share-prefix-path c = key-inside (c .before .before .before .before .before .before .seek .ensures) (c .before .before .before .found .given .1)
+array-share-prefix-path c = search key-inside
 
 slice-aggregate-copy-2 : tie.Need-slice-aggregate-copy-2
-slice-aggregate-copy-2 c = sym (length-take-le _ _ (key-inside (c .before .before .before .before .before .before .before .seek .ensures) (c .before .before .before .before .found .given .1)))
+slice-aggregate-copy-2 c = sym (length-take-le _ _ (search key-inside))
 
 copy-requires : tie.Need-copy-requires
-copy-requires c κs = length-take-le _ _ (c .before .before .if4 .left) ∙ sym (length-take-le _ _ (key-inside (c .before .before .before .before .before .before .before .seek .ensures) (c .before .before .before .before .found .given .1)))
+copy-requires c κs = length-take-le _ _ (c .before .before .if4 .left) ∙ sym (length-take-le _ _ (search key-inside))
 
 returns-6 : tie.Need-returns-6
-returns-6 c = step-given (asked (c .before .before .before .before .before .before .before .before .before .before .before .before .before .before .before .before)) _ (c .before .before .before .before .before .before .before .before .before .before .before .seek .ensures) (c .before .before .before .before .before .before .before .before .found .given .1) (c .before .before .before .before .before .before .if4 .left) (c .before .before .before .copy .ensures) refl (c .handed-on .ensures)
+returns-6 c = search (asked, step-given)
 
 pub step-spec : {M : Type 1} → statement M
 step-spec =
