@@ -13,8 +13,7 @@ use Rattle.tree.specs.Told.{steppedTold}
 use Rattle.tree.specs.Calls.{fits, lastFits, stepCall}
 use Rattle.walk.specs.declared.Walk.{Walk}
 use Rattle.walk.specs.declared.Step.{Step}
-use Rattle.walk.specs.Due.{lastIf}
-use Rattle.walk.specs.Walks.{prefixOf, lastOf, Begins, Leaves, stepOf, Steps}
+use Rattle.walk.specs.Walks.{prefixOf, lastOf, Begins, GoesOn, Leaves, stepOf, Steps}
 use Rattle.host.specs.Host.{lastGiven, Returns, keyWritten, NextGiven}
 use Rattle.host.specs.Resumed.{Resumes}
 use Rattle.host.proofs.Handed.{returned}
@@ -48,17 +47,16 @@ resumes-fresh {p} {w} begun l b e =
       lastFits = ap lastFits (b .fresh);
     })
 
--- The last key's bytes come from a walk under that key.
-pub resumes-given : {p : Key} {w v : Walk} (begun : ℕ) (l : Key) → Begins p w → Begins l v → (begun ≡ 0 → ⊥)
-    → Resumes p (lastGiven begun l) (record { prefix = w .prefix; «prefix_len» = w .«prefix_len»; last = v .prefix; «last_len» = v .«prefix_len»; begun = true })
-unfolding lastIf lastFits
-resumes-given {p} {w} {v} begun l b d e =
+-- Behind a last key the walk goes on.
+pub resumes-given : {p : Key} {w u : Walk} (begun : ℕ) (l : Key) → Begins p w → GoesOn l w u → (begun ≡ 0 → ⊥) → Resumes p (lastGiven begun l) u
+unfolding lastFits
+resumes-given {p} {w} {u} begun l b g e =
     rw (given-some begun l e)
     (record {
-      prefix = λ f. b .prefix (fits-short p f);
-      prefixFits = fits-same (prefixOf w) p (b .len);
-      last = λ f. ap some (d .prefix (fits-short l f));
-      lastFits = fits-same (prefixOf v) l (d .len);
+      prefix = λ f. g .prefix ∙ b .prefix (fits-short p f);
+      prefixFits = ap fits (g .prefix) ∙ fits-same (prefixOf w) p (b .len);
+      last = λ f. g .last ∙ ap some (g .kept (fits-short l f));
+      lastFits = ap lastFits (g .last) ∙ fits-same (g .given) l (g .len);
     })
 
 written-not : {n : ℕ} (m : ℕ) → n ≡ suc m → (x y : Option Pair) (out : List ℕ) → keyWritten n x out ≡ keyWritten n y out

@@ -117,7 +117,7 @@ pub extern "C" fn yarnhollow_shared(
     answer.number()
 }
 
-// The walk that the lent state stands for. A walk under the last key holds that key's bytes, and is taken apart for them.
+// The walk that the lent state stands for.
 fn resumed(prefix: &[u8], last: &[u8], begun: u32) -> Walk
     ensures { λ r. ⌜ Resumes (now (prefix .entry)) (lastGiven begun (now (last .entry))) r ⌝ }
 {
@@ -125,16 +125,7 @@ fn resumed(prefix: &[u8], last: &[u8], begun: u32) -> Walk
     if begun == 0 {
         return fresh;
     }
-    let given = Walk::new(last);
-    let under = fresh.prefix;
-    let bytes = given.prefix;
-    Walk {
-        prefix: under,
-        prefix_len: fresh.prefix_len,
-        last: bytes,
-        last_len: given.prefix_len,
-        begun: true,
-    }
+    fresh.after(last)
 }
 
 // The walk's step, its state lent as plain slices and a number: with `begun` 0 no key has been given, and `last` does not count.

@@ -58,7 +58,7 @@ module _ (t : Tree) (p : Key) (l : Option Key) (room : ℕ) where
   unfolding stepCall
   call-prefix e = rw (e, stepCall)
 
-  call-last : fits p ≡ true → lastFits l ≡ false → refusal 2 ≡ stepCall (some t) p l room
+  pub call-last : fits p ≡ true → lastFits l ≡ false → refusal 2 ≡ stepCall (some t) p l room
   unfolding stepCall
   call-last e f = rw (e, f, stepCall)
 

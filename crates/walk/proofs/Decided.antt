@@ -1,6 +1,7 @@
--- The contracts decide what a new walk and a step answer and leave: two results that they allow agree. Of a walk its prefix and
--- its last key count; the bytes of its arrays behind them are free. Assumes nothing.
+-- The contracts decide what a new walk, one that goes on behind a key, and a step answer and leave: two results that they allow
+-- agree. Of a walk its prefix and its last key count; the bytes of its arrays behind them are free. Assumes nothing.
 use mathlib.Core.Path.{_≡_, refl, sym, ap, _∙_}
+use mathlib.Core.Bool.{Bool, true, false}
 use mathlib.Core.List.{List}
 use mathlib.Core.Option.{Option, none, some}
 use Prim.Native.Nat.{ℕ, zero, suc, _≤_, _<_}
@@ -10,11 +11,12 @@ use Rattle.tree.specs.Key.{Key, keyMax}
 use Rattle.tree.specs.Map.{Pair}
 use Rattle.tree.specs.Tree.{Tree}
 use Rattle.tree.specs.Told.{Told, refusal, steppedTold}
+use Rattle.tree.specs.Calls.{fits, lastFits, stepCall}
 use Rattle.tree.proofs.OneAnswer.{stepped-one}
 use Rattle.walk.specs.declared.Walk.{Walk}
 use Rattle.walk.specs.declared.Step.{Step}
-use Rattle.walk.specs.Walks.{prefixOf, lastOf, Begins, Leaves, stepOf, Steps}
-use Rattle.walk.proofs.Answers.{fits-long, call-prefix}
+use Rattle.walk.specs.Walks.{prefixOf, lastOf, Begins, GoesOn, Leaves, stepOf, Steps}
+use Rattle.walk.proofs.Answers.{fits-long, call-prefix, call-last}
 
 -- Two walks that go on alike
 pub record Alike (v w : Walk) : Type 0 where
@@ -27,6 +29,22 @@ begins-decided h a b = record { prefix = a .prefix h ∙ sym (b .prefix h); last
 -- A walk under a prefix that is too long gets 2 at every step.
 pub begins-long : {t : Tree} {p : Key} {w : Walk} {r : Step} {out out′ : List ℕ} → 4096 < length p → Begins p w → Steps (some t) w r out out′ → steppedTold (r .answer) ≡ refusal 2
 begins-long {t} {p} {w} {r} {out} h b s = s .said ∙ sym (call-prefix t (prefixOf w) (lastOf w) (length out) (fits-long (prefixOf w) (omega (arith, b .len))))
+
+pub goes-on-decided : {l : Key} {w u v : Walk} → length l ≤ keyMax → GoesOn l w u → GoesOn l w v → Alike u v
+goes-on-decided h a b =
+    record { prefix = a .prefix ∙ sym (b .prefix); last = a .last ∙ ap some (a .kept h) ∙ sym (b .last ∙ ap some (b .kept h)) }
+
+-- So does a walk behind a last key that is too long.
+long-last : (t : Tree) (p : Key) (l : Option Key) (room : ℕ) (b : Bool) → fits p ≡ b → lastFits l ≡ false → refusal 2 ≡ stepCall (some t) p l room
+long-last t p l room false e f = call-prefix t p l room e
+long-last t p l room true e f = call-last t p l room e f
+
+pub goes-on-long : {t : Tree} {l : Key} {w u : Walk} {r : Step} {out out′ : List ℕ} → 4096 < length l → GoesOn l w u → Steps (some t) u r out out′
+    → steppedTold (r .answer) ≡ refusal 2
+unfolding lastFits
+goes-on-long {t} {l} {w} {u} {r} {out} h g s =
+    let f : lastFits (lastOf u) ≡ false = ap lastFits (g .last) ∙ fits-long (g .given) (omega (arith, g .len)) in
+    s .said ∙ sym (long-last t (prefixOf u) (lastOf u) (length out) (fits (prefixOf u)) refl f)
 
 -- what is left by the number told
 record Left (n : ℕ) (u v : Walk) (a b : List ℕ) : Type 0 where

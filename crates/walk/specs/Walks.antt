@@ -38,6 +38,15 @@ pub record Begins (p : Key) (w : Walk) : Type 0 where
   pub len : length (prefixOf w) ≡ length p
   pub fresh : lastOf w ≡ none
 
+-- A walk that goes on behind a key: the same prefix, and that key is the last one given. A key over 4,096 bytes is not kept, but
+-- its length is.
+pub record GoesOn (l : Key) (w w′ : Walk) : Type 0 where
+  pub prefix : prefixOf w′ ≡ prefixOf w
+  pub given : Key
+  pub last : lastOf w′ ≡ some given
+  pub len : length given ≡ length l
+  pub kept : length l ≤ keyMax → given ≡ l
+
 -- A step that gives a key hands the walk on with it, and puts it at the front of the output; the rest stays.
 pub record Gives (key : Key) (w w′ : Walk) (out out′ : List ℕ) : Type 0 where
   pub prefix : prefixOf w′ ≡ prefixOf w
