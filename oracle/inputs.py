@@ -1,4 +1,4 @@
-# Inputs for the box and the oracle: lists of commands, the same at every run. `without` names commands to leave out.
+# Inputs for the box and the oracle: lists of commands, the same at every run.
 import importlib.machinery, importlib.util, itertools, os, random, sys
 
 here = os.path.dirname(os.path.abspath(__file__))
@@ -33,6 +33,11 @@ def look(p, queries):
             yield '%s %d %s' % (name, p, hexed(q))
 
 
+# One step of a walk that is handed in; no last key means that none was given.
+def step(p, prefix, last, room):
+    return 'step %d %s %s %d' % (p, hexed(prefix), '.' if last is None else hexed(last), room)
+
+
 def show(p):
     return ['counts %d' % p, 'write %d' % p, 'walk %d -' % p]
 
@@ -42,37 +47,34 @@ def build(p, keys):
 
 
 # Every set of keys of up to three letters out of two: its image, its counts, its walk, and that of what a removal or a split leaves.
-def every_set(without):
+def every_set():
     keys = words(b'ab', 3)
     for chosen in range(1 << len(keys)):
         here = [k for i, k in enumerate(keys) if chosen >> i & 1]
         yield from build(0, here)
         yield from show(0)
-        if 'split' not in without:
-            yield 'split 0 %s 1' % hexed(keys[chosen % len(keys)])
-            yield from show(0) + show(1)
-        if 'remove' not in without:
-            for k in here[:4]:
-                yield 'remove 0 %s' % hexed(k)
-                yield 'write 0'
+        yield 'split 0 %s 1' % hexed(keys[chosen % len(keys)])
+        yield from show(0) + show(1)
+        for k in here[:4]:
+            yield 'remove 0 %s' % hexed(k)
+            yield 'write 0'
 
 
-# Every set of keys of up to two letters: each look, each removal, each split, from the same start.
-def every_look(without):
+# Every set of keys of up to two letters: each look, each step, each removal, each split, from the same start.
+def every_look():
     keys, queries = words(b'ab', 2), words(b'abc', 3)
     for chosen in range(1 << len(keys)):
         here = [k for i, k in enumerate(keys) if chosen >> i & 1]
         yield from build(0, here)
         yield from look(0, queries)
+        yield from (step(0, q, last, room) for q in keys for last in [None] + keys for room in (1, 2))
         for q in keys:
-            if 'remove' not in without:
-                yield from build(0, here) + ['remove 0 %s' % hexed(q)] + show(0)
-            if 'split' not in without:
-                yield from build(0, here) + ['split 0 %s 1' % hexed(q)] + show(0) + show(1)
+            yield from build(0, here) + ['remove 0 %s' % hexed(q)] + show(0)
+            yield from build(0, here) + ['split 0 %s 1' % hexed(q)] + show(0) + show(1)
 
 
 # Up to five of the keys of up to two letters, in every order.
-def every_order(without):
+def every_order():
     for n in range(6):
         for order in itertools.permutations(words(b'ab', 2), n):
             yield from build(0, order)
@@ -96,7 +98,7 @@ def short_key(r):
     return bytes(r.choice(b'abc/') for _ in range(r.choice((0, 1, 2, 3, 4, 5, 8))))
 
 
-KINDS = ['insert'] * 9 + ['get', 'remove', 'remove', 'longest', 'shared', 'walk', 'split', 'counts', 'write', 'clear', 'make']
+KINDS = ['insert'] * 9 + ['get', 'remove', 'remove', 'longest', 'shared', 'walk', 'step', 'split', 'counts', 'write', 'clear', 'make']
 
 
 def one(r, kind, key):
@@ -108,6 +110,10 @@ def one(r, kind, key):
         return 'split %d %s %d' % (p, hexed(q[:r.randrange(len(q) + 1)]), 1 - p)
     if kind in ('counts', 'write', 'clear', 'make'):
         return '%s %d' % (kind, p)
+    if kind == 'step':
+        q, last = key(), key()
+        prefix = q[:r.choice((0, 0, 1, r.randrange(len(q) + 1)))]
+        return step(p, prefix, r.choice((None, last, last, last[:r.randrange(len(last) + 1)])), r.choice((0, 2, 255, 4096, 4096)))
     q = key()
     if kind in ('walk', 'longest', 'shared') and r.random() < 0.5:
         q = q[:r.randrange(len(q) + 1)] + (b'' if kind == 'walk' else bytes([r.randrange(256)]))
@@ -115,12 +121,11 @@ def one(r, kind, key):
 
 
 # A run of calls in any order; the keys come from a stock, so that they meet again.
-def run_of(r, without, n, make_key, stock):
+def run_of(r, n, make_key, stock):
     keys = [make_key() for _ in range(stock)]
-    kinds = [k for k in KINDS if k not in without]
     yield from ('make 0', 'make 1')
     for _ in range(n):
-        kind = r.choice(kinds)
+        kind = r.choice(KINDS)
         if kind in ('clear', 'make') and r.random() < 0.8:
             kind = 'insert'
         yield one(r, kind, lambda: r.choice(keys))
@@ -128,21 +133,21 @@ def run_of(r, without, n, make_key, stock):
             yield 'write %d' % r.randrange(2)
 
 
-def short_runs(without, runs, seed=1):
+def short_runs(runs, seed=1):
     r = random.Random(seed)
     for _ in range(runs):
-        yield from run_of(r, without, 200, lambda: short_key(r), r.choice((4, 12, 40)))
+        yield from run_of(r, 200, lambda: short_key(r), r.choice((4, 12, 40)))
 
 
-def long_runs(without, runs, seed=2):
+def long_runs(runs, seed=2):
     r = random.Random(seed)
     for i in range(runs):
         edges = EDGES if i % 4 == 0 else [n for n in EDGES if n < 1000]
-        yield from run_of(r, without, 120, lambda: long_key(r, edges), r.choice((3, 6, 12)))
+        yield from run_of(r, 120, lambda: long_key(r, edges), r.choice((3, 6, 12)))
 
 
 # Pools that are full, or nearly: keys of one or two letters of many, and calls that need 0, 1, 2 or 3 nodes.
-def full_runs(without, runs, seed=3):
+def full_runs(runs, seed=3):
     r = random.Random(seed)
     for _ in range(runs):
         letters = bytes(range(r.choice((60, 100, 124, 126, 127))))
@@ -150,11 +155,10 @@ def full_runs(without, runs, seed=3):
         for _ in range(40):
             q = bytes(r.choice(b'\x00\x05\x20\xf0') for _ in range(r.choice((1, 2, 3)))) + b'\x07' * r.choice((0, 0, 0, 254, 255, 510, 511))
             yield 'insert 0 %s 1' % hexed(q)
-            if r.random() < 0.3 and 'remove' not in without:
+            if r.random() < 0.3:
                 yield 'remove 0 %02x' % r.randrange(128)
         yield from show(0)
-        if 'split' not in without:
-            yield from ['split 0 %s 1' % r.choice(('-', '00', '05')), 'split 1 - 0'] + show(0) + show(1)
+        yield from ['split 0 %s 1' % r.choice(('-', '00', '05')), 'split 1 - 0'] + show(0) + show(1)
 
 
 def grown(r):
@@ -209,21 +213,73 @@ def edge_images():
         yield from ('read 0 %s %s' % (tree.hex(), listed([1] * n)), 'counts 0', 'write 0')
 
 
-# Document 01's examples, as far as 128 slots show them.
-def examples(without):
-    a, ten, key = b'\x07' * 256, b'\x07' * 10, lambda t: t.encode().hex()
-    yield from ['write 0', 'walk 0 -', 'read 0 - -'] + build(0, [b'ab', b'ac']) + show(0)
-    yield from build(1, [b'a', b'abc']) + list(look(1, [b'abd', b'b']))
+TWO = '0c0000000c0100016133010002620301000263'
+
+
+def sevens(n, end=b''):
+    return b'\x07' * n + end
+
+
+def gone(key):
+    return ['remove 0 %s' % hexed(key)] + show(0)
+
+
+# Document 01's examples, as far as pools of 128 slots show them, each under a comment with its answer.
+def examples():
+    yield '# The empty tree: 00000000 and no numbers; an image of no bytes gives 6.'
+    yield from ['make 0'] + show(0) + ['read 0 - -', 'read 0 00000000 -'] + show(0)
+    yield '# ab = 1, ac = 2: 19 image bytes, numbers 1, 2, both ways.'
+    yield from build(0, [b'ab', b'ac']) + show(0) + list(look(0, [b'ab', b'ac', b'a'])) + ['read 1 %s 1,2' % TWO] + show(1)
+    yield '# The same image a byte short, a byte over, with a number over and one short: 6 14, 13 19, 12 19, 12 14; the tree stays.'
+    yield from ['read 1 %s 1,2' % TWO[:-2], 'read 1 %s00 1,2' % TWO, 'read 1 %s 1,2,3' % TWO, 'read 1 %s 1' % TWO] + show(1)
+    yield '# After removing ab: 0c000000 03020001 6163, number 2. Once more: 3.'
+    yield from gone(b'ab') + gone(b'ab')
+    yield '# a = 1, abc = 2, from its image. Query abd: stored prefix of length 1, number 1, shared length 2; query b: 3, and 0.'
+    yield from ['read 0 0c0000000f01000161030200026263 1,2'] + show(0) + list(look(0, [b'abd', b'b']))
+    yield '# Cleared, the tree is empty.'
+    yield from ['clear 0'] + show(0)
+    yield '# Inserting gives the old number, if any.'
+    yield from build(0, [b'ab', b'ab']) + show(0)
+    yield '# Inserting a, which ends inside the label of ab, cuts it: 3 nodes.'
+    yield from build(0, [b'ab', b'a']) + show(0)
+    yield '# A key of 255 bytes is 1 node under the root, one of 256 is 2; 4,096 bytes are 17, 4,097 give 2.'
     for n in (255, 256, 4096, 4097):
-        yield from build(0, [b'\x07' * n]) + ['counts 0']
-    yield from build(0, [a, ten]) + show(0) + build(1, [ten, a]) + show(1)
-    if 'remove' not in without:
-        yield from ['remove 0 ' + ten.hex(), 'write 0', 'remove 1 ' + ten.hex(), 'write 1']
-        yield from build(0, [b'ab', b'ac']) + ['remove 0 ' + key('ab'), 'write 0', 'remove 0 ' + key('ab')]
-    if 'split' not in without:
-        for prefix in ('a', 'ab', 'c', ''):
-            yield from build(0, [b'ab', b'ac', b'b']) + ['split 0 %s 1' % (key(prefix) or '-')] + show(0) + show(1)
-        yield from build(0, [b'abc']) + ['split 0 61 1'] + show(0) + show(1)
+        yield from build(0, [sevens(n)]) + show(0)
+    yield '# 256 bytes, then their first 10: labels of 10, 245 and 1 bytes, 272 image bytes. Without the short key: 255 and 1.'
+    yield from build(0, [sevens(256), sevens(10)]) + show(0) + gone(sevens(10))
+    yield '# The other order: 10 and 246, 268 bytes. Without the short key: 10 and 246 still.'
+    yield from build(0, [sevens(10), sevens(256)]) + show(0) + gone(sevens(10))
+    yield '# 127 keys of one byte fill 128 slots: one more gives 4, a key that is there its old number.'
+    yield from build(0, [bytes([b]) for b in range(127)]) + ['insert 0 ff 1', 'insert 0 0000 1', 'insert 0 00 9', 'counts 0']
+    yield '# With one slot free a key that needs two nodes gives 4, one that needs one is done.'
+    yield from ['remove 0 00', 'insert 0 %s 1' % hexed(sevens(256, b'a')), 'insert 0 01ff 1', 'insert 0 02ff 1', 'counts 0']
+    yield '# A walk under a over a tree that changes: aa comes behind the first step, abc behind the third, ad when it has ended.'
+    yield from build(0, [b'ab', b'a', b'b']) + [step(0, b'a', None, 16)]
+    yield from ['insert 0 6161 4', step(0, b'a', b'a', 16), step(0, b'a', b'aa', 16)]
+    yield from ['insert 0 616263 5', step(0, b'a', b'ab', 16), step(0, b'a', b'abc', 16)]
+    yield from ['insert 0 6164 6', step(0, b'a', b'abc', 16), step(0, b'a', b'ad', 16)]
+    yield '# A last key that is not stored, one before and one behind the prefix, and an output a byte too short: 5 and the length.'
+    yield from [step(0, b'a', last, 16) for last in (b'aaa', b'', b'A', b'b')] + [step(0, b'a', b'ab', n) for n in (0, 2, 3, 4096)]
+    yield '# The empty key needs no output.'
+    yield from ['insert 0 - 7', step(0, b'', None, 0), step(0, b'', b'', 0), step(0, b'', b'', 1)]
+    yield '# A prefix or a last key of 4,096 bytes is taken, one of 4,097 gives 2.'
+    yield from [step(0, sevens(n), last, 16) for n in (4096, 4097) for last in (None, b'a')]
+    yield from [step(0, prefix, sevens(n), 16) for n in (4096, 4097) for prefix in (b'', b'a')]
+    for prefix, left in (('a', 'first tree b, second tree b, c in 3 nodes'), ('ab', 'first tree ac, b, second tree the empty key in 1 node'),
+                         ('ac', 'first tree ab, b, second tree the empty key'), ('ad', '3, and both stay'), ('', 'the whole tree')):
+        yield '# ab, ac, b split by "%s": %s.' % (prefix, left)
+        yield from build(0, [b'ab', b'ac', b'b']) + ['split 0 %s 1' % (prefix.encode().hex() or '-')] + show(0) + show(1)
+    yield '# Once more by "": an empty tree is split off, and the second pool\'s tree is given up.'
+    yield from ['split 0 - 1'] + show(0) + show(1)
+    yield '# abc split by "a": second tree bc in 2 nodes.'
+    yield from build(0, [b'abc']) + ['split 0 61 1'] + show(0) + show(1)
+    yield '# The root is not merged with an only child.'
+    yield from build(0, [b'', b'a']) + gone(b'')
+    yield '# Labels of 200 and 55 bytes are joined, 255 in all; 200 and 56 are not.'
+    for n in (54, 55):
+        yield from build(0, [sevens(200, b'\2'), sevens(200, b'\1' + sevens(n))]) + show(0) + gone(sevens(200, b'\2'))
+    yield '# Labels of 155 and 45 bytes stay two while they are passed over, and while the key is absent; then 100 and 155 are joined.'
+    yield from build(0, [sevens(300), sevens(100, b'\x08'), b'x']) + show(0) + gone(b'x') + gone(sevens(200)) + gone(sevens(100, b'\x08'))
 
 
 # One image or more for each refusal of the reader, each behind one that is taken.
@@ -236,15 +292,15 @@ def refused_images():
 
 
 # The list that the gate replays. Of the longest lines it has one that is a command and one that is too long.
-def replay(without):
-    yield from examples(without)
+def replay():
+    yield from examples()
     yield from (line for line in odd_lines() if len(line) < 20000)
     yield from ('get 0 ' + '61' * 65533, 'x' * 131073)
     yield from edge_images()
     yield from refused_images()
-    yield from short_runs(without, 8, seed=11)
-    yield from itertools.islice(long_runs(without, 4, seed=12), 400)
-    yield from full_runs(without, 2, seed=13)
+    yield from short_runs(8, seed=11)
+    yield from itertools.islice(long_runs(4, seed=12), 400)
+    yield from full_runs(2, seed=13)
     yield from damaged(200, seed=14)
 
 
@@ -259,3 +315,6 @@ def odd_lines():
     yield from ('read 0 03000000 5,6', 'get 0 -', 'get 0 61\r', 'get 0 \u00e9', 'quit', '?', 'get 0 ' + '61' * 4096, 'get 0 ' + '61' * 4097, 'shared 0 ' + '61' * 4097)
     yield from ('walk 0 ' + '61' * 4097, 'longest 0 ' + '61' * 4097, 'get 0 ' + '61' * 65533, 'get 0 ' + '61' * 65533 + 'a', 'get 0 ' + '61' * 65534)
     yield from ('read 0 00000000 ' + ','.join(['1'] * 65528), 'read 0 00000000 ' + ','.join(['1'] * 65529), 'x' * 131072, 'x' * 131073, 'counts 0')
+    yield from ('step 0', 'step 0 -', 'step 0 - .', 'step 0 - . ', 'step 0 - . 4096', 'step 0 - . 4097', 'step 0 - . 4294967296', 'step 0 - . 01', 'step 0 - . -', 'step 0 . . 1')
+    yield from ('step 0 - .. 1', 'step 0 - .61 1', 'step 0 - 6 1', 'step 0 - 6G 1', 'step 0 -  1', 'step 0  . 1', 'step 0 - 61 1 1', 'step 2 - . 1', 'step - . 1', 'step 0 - - 1')
+    yield from ('step 0 %s %s 5' % ('61' * 30000, '61' * 35000), 'step 0 %s . 5' % ('61' * 65529))

@@ -1,6 +1,6 @@
 //! The oracle: answers the commands of `box` by the Rust, on two maps named 0 and 1. Whatever the Rust has no notion of is
-//! answered by the thin layer here, from document 01: the key limit (2), no room in 128 slots (4), and the numbers of a refused
-//! image (`strict.rs`). Commands that begin with `rust-` ask the Rust alone and change nothing.
+//! answered by the thin layer here, from document 01: the key limit (2), no room in 128 slots (4), an output that is too short
+//! (5), and the numbers of a refused image (`strict.rs`). Commands that begin with `rust-` ask the Rust alone and change nothing.
 mod ask;
 mod image;
 mod records;
@@ -91,6 +91,19 @@ fn walk(map: &Map, prefix: &[u8]) -> String {
     line + "3"
 }
 
+/// One step of a walk that is handed in. The Rust has no such walk: its iterator under the prefix gives the keys in order, and the
+/// first behind the last key given is the step's.
+fn step(map: &Map, prefix: &[u8], last: Option<&[u8]>, room: usize) -> String {
+    if prefix.len() > KEY_MAX || last.is_some_and(|last| last.len() > KEY_MAX) {
+        return "2".into();
+    }
+    match map.iter_prefix(prefix).find(|(key, _)| last.is_none_or(|last| key.as_slice() > last)) {
+        None => "3".into(),
+        Some((key, _)) if key.len() > room => format!("5 {}", key.len()),
+        Some((key, n)) => format!("0 {} {n}", hex(&key)),
+    }
+}
+
 /// `Node::split_by_prefix` is not public; `PatriciaMap::split_by_prefix` calls it and puts the prefix over the node that it
 /// gives, merged with that node where the two labels fit in one. `under` takes the prefix off again and puts the empty root over.
 fn split(maps: &mut [Map; 2], p: usize, prefix: &[u8]) -> String {
@@ -161,6 +174,14 @@ fn answer(maps: &mut [Map; 2], line: &[u8]) -> Option<String> {
         (b"longest", [key]) => longest(&maps[p], &key.bytes()?),
         (b"shared", [key]) => shared(&maps[p], &key.bytes()?),
         (b"walk", [prefix]) => walk(&maps[p], &prefix.bytes()?),
+        (b"step", [prefix, last, room]) => {
+            let (prefix, room) = (prefix.bytes()?, number(room)? as usize);
+            let last = if *last == b"." { None } else { Some(last.bytes()?) };
+            if room > KEY_MAX {
+                return None;
+            }
+            step(&maps[p], &prefix, last.as_deref(), room)
+        }
         (b"split", [prefix, q]) => {
             let (prefix, q) = (prefix.bytes()?, q.pool()?);
             if p == q {

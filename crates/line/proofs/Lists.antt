@@ -9,7 +9,7 @@ use native.Mathlib.Omega.{arith}
 use lib.ListN.{length, take, drop, set, length-set, length-append, length-take, length-drop}
 use lib.Seq.{take-suc-set, drop-drop, take-length, length-take-le}
 use Rattle.bytes.specs.Bytes.{indexOf, slice}
-use Rattle.line.specs.Spelling.{value, Number, NumberTaken, Listed, last, more, firstOf, none, ManyTaken, ListTaken}
+use Rattle.line.specs.Spelling.{value, Number, NumberTaken, Listed, last, more, firstOf, dash, ManyTaken, ListTaken}
 use Rattle.label.proofs.Moves.{by-lt}
 use Rattle.line.specs.declared.Taken.{Taken}
 use Rattle.line.specs.declared.Numeral.{Numeral}
@@ -124,6 +124,6 @@ listing-full s was out at k h so ns l fits =
     omega (arith, e, length-take-le k out (so .room), so .room, some-number (r .rest))
 
 -- What is taken of the letters is taken of the word.
-pub list-taken : (r : Taken) (s out : List ℕ) → (s ≡ none → ⊥) → ManyTaken r s out → ListTaken r s out
+pub list-taken : (r : Taken) (s out : List ℕ) → (s ≡ dash → ⊥) → ManyTaken r s out → ListTaken r s out
 list-taken (Taken.Count k) s out d h = inr h
 list-taken Taken.Bad s out d h = (d, h)

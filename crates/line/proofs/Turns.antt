@@ -9,7 +9,7 @@ use native.Mathlib.Omega.{arith}
 use lib.ListN.{length, getD, set, length-set}
 use lib.Seq.{getD-set-same, getD-set-other}
 use Rattle.label.proofs.Moves.{by-lt}
-use Rattle.line.specs.Spelling.{nibble, value, Decimal, Hexed, none, HexTaken, KeyTaken, DecimalTaken, NumberTaken}
+use Rattle.line.specs.Spelling.{nibble, value, Decimal, Hexed, dash, HexTaken, KeyTaken, DecimalTaken, NumberTaken}
 use Rattle.line.specs.declared.Taken.{Taken}
 use Rattle.line.specs.declared.Numeral.{Numeral}
 
@@ -96,7 +96,7 @@ valuing-done s n i h was =
     (record { each = λ j b. was .each j (omega arith); fits = omega (arith, was .small) }, so)
 
 -- What is taken of the letters is taken of the word.
-pub key-taken : (r : Taken) (s out : List ℕ) → (s ≡ none → ⊥) → 0 < length s → HexTaken r s out → KeyTaken r s out
+pub key-taken : (r : Taken) (s out : List ℕ) → (s ≡ dash → ⊥) → 0 < length s → HexTaken r s out → KeyTaken r s out
 key-taken (Taken.Count n) s out d p h = inr (p, h)
 key-taken Taken.Bad s out d p h = (d, λ q. h)
 

@@ -37,13 +37,13 @@ HexTaken (Taken.Count n) s out = Hexed s out n
 HexTaken Taken.Bad s out = Digits s → length s ≤ 2 * length out → ⊥
 
 -- The word for nothing, `-`
-abbrev pub none : List ℕ
-none = 45 ∷ []
+abbrev pub dash : List ℕ
+dash = 45 ∷ []
 
 -- A key, a prefix or the bytes of an image: `-`, or hex digits
 abbrev pub KeyTaken : Taken → List ℕ → List ℕ → Type 0
-KeyTaken (Taken.Count n) s out = ((s ≡ none) × (n ≡ 0)) ⊎ ((0 < length s) × Hexed s out n)
-KeyTaken Taken.Bad s out = (s ≡ none → ⊥) × (0 < length s → Digits s → length s ≤ 2 * length out → ⊥)
+KeyTaken (Taken.Count n) s out = ((s ≡ dash) × (n ≡ 0)) ⊎ ((0 < length s) × Hexed s out n)
+KeyTaken Taken.Bad s out = (s ≡ dash → ⊥) × (0 < length s → Digits s → length s ≤ 2 * length out → ⊥)
 
 -- The number that the first n digits of s spell
 unfoldable pub value : List ℕ → ℕ → ℕ
@@ -86,5 +86,5 @@ ManyTaken Taken.Bad s out = (ns : List ℕ) → Listed s ns → length ns ≤ le
 
 -- The numbers of an image: `-`, or a list
 abbrev pub ListTaken : Taken → List ℕ → List ℕ → Type 0
-ListTaken (Taken.Count k) s out = ((s ≡ none) × (k ≡ 0)) ⊎ ((k ≤ length out) × Listed s (take k out))
-ListTaken Taken.Bad s out = (s ≡ none → ⊥) × ((ns : List ℕ) → Listed s ns → length ns ≤ length out → ⊥)
+ListTaken (Taken.Count k) s out = ((s ≡ dash) × (k ≡ 0)) ⊎ ((k ≤ length out) × Listed s (take k out))
+ListTaken Taken.Bad s out = (s ≡ dash → ⊥) × ((ns : List ℕ) → Listed s ns → length ns ≤ length out → ⊥)

@@ -1,44 +1,9 @@
-// The words of a command line. Words are apart by one space; keys, prefixes and images are lower-case hex, `-` for none; numbers
+// The words of a line. Words are apart by one space; keys, prefixes and images are lower-case hex, `-` for none; numbers
 // are decimal without leading zeros; lists are joined by commas, `-` for none.
 
 ghost use mathlib.Core.Path.{_≡_};
-ghost use Rattle.line.specs.Words.{AloneOf, KeyedOf, PairedOf, NamedOf};
 ghost use Rattle.line.specs.Spelling.{FirstWord, HexTaken, KeyTaken, DecimalTaken, NumberTaken, ManyTaken, ListTaken};
 ghost use Rattle.line.specs.Spelling.{nibble as Spelling·nibble};
-
-// A command with nothing but its pool.
-pub enum Alone {
-    Make,
-    Clear,
-    Counts,
-    Write,
-    Unknown,
-}
-
-// A command with one word more, a key or a prefix.
-pub enum Keyed {
-    Get,
-    Remove,
-    Longest,
-    Shared,
-    Walk,
-    Unknown,
-}
-
-// A command with two words more.
-pub enum Paired {
-    Insert,
-    Split,
-    Read,
-    Unknown,
-}
-
-// A pool's name.
-pub enum Named {
-    First,
-    Second,
-    Unknown,
-}
 
 // How many bytes or numbers a word has given, at the front of the room lent for them.
 pub enum Taken {
@@ -56,72 +21,6 @@ pub fn word_end(s: &[u8]) -> usize
     ensures { λ r. ⌜ FirstWord (now (s .entry)) r ⌝ }
 {
     bytes::scan::find(s, 0, s.len(), b' ')
-}
-
-pub fn verb_alone(s: &[u8]) -> Alone
-    ensures { λ r. ⌜ AloneOf r (now (s .entry)) ⌝ }
-{
-    if check::same(s, b"make") {
-        return Alone::Make;
-    }
-    if check::same(s, b"clear") {
-        return Alone::Clear;
-    }
-    if check::same(s, b"counts") {
-        return Alone::Counts;
-    }
-    if check::same(s, b"write") {
-        return Alone::Write;
-    }
-    Alone::Unknown
-}
-
-pub fn verb_keyed(s: &[u8]) -> Keyed
-    ensures { λ r. ⌜ KeyedOf r (now (s .entry)) ⌝ }
-{
-    if check::same(s, b"get") {
-        return Keyed::Get;
-    }
-    if check::same(s, b"remove") {
-        return Keyed::Remove;
-    }
-    if check::same(s, b"longest") {
-        return Keyed::Longest;
-    }
-    if check::same(s, b"shared") {
-        return Keyed::Shared;
-    }
-    if check::same(s, b"walk") {
-        return Keyed::Walk;
-    }
-    Keyed::Unknown
-}
-
-pub fn verb_paired(s: &[u8]) -> Paired
-    ensures { λ r. ⌜ PairedOf r (now (s .entry)) ⌝ }
-{
-    if check::same(s, b"insert") {
-        return Paired::Insert;
-    }
-    if check::same(s, b"split") {
-        return Paired::Split;
-    }
-    if check::same(s, b"read") {
-        return Paired::Read;
-    }
-    Paired::Unknown
-}
-
-pub fn pool_named(s: &[u8]) -> Named
-    ensures { λ r. ⌜ NamedOf r (now (s .entry)) ⌝ }
-{
-    if check::same(s, b"0") {
-        return Named::First;
-    }
-    if check::same(s, b"1") {
-        return Named::Second;
-    }
-    Named::Unknown
 }
 
 // The value of a hex digit, 16 for any other byte.
