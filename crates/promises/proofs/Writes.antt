@@ -8,12 +8,16 @@ use Prim.Native.Nat.{ℕ, zero, suc, _≤_}
 use native.Mathlib.Omega.{arith}
 use lib.ListN.{length}
 use lib.Dec.{leb}
-use Rattle.tree.specs.Tree.{Tree}
+use borrow.Author.Tests.{le-leb}
+use Rattle.tree.specs.Key.{Bytes, keyMax}
+use Rattle.tree.specs.Tree.{Tree, WellFormed}
 use Rattle.tree.specs.Image.{imageT, numbersT, levelT}
 use Rattle.tree.specs.Told.{Told, done, writtenTold}
 use Rattle.tree.specs.Calls.{both, writeCall}
 use Rattle.tree.specs.declared.Written.{Written}
+use Rattle.tree.proofs.Levels.{level-bound}
 use Rattle.pool.specs.Lent.{Lent, treeIn}
+use Rattle.pool.proofs.Held.{tree-holds}
 use Rattle.writer.specs.Post.{front, after, WriteAllows}
 use Rattle.promises.specs.Pools.{Accepted}
 
@@ -84,3 +88,23 @@ wrote-same l m e {tree} {numbers} {tree′} {numbers′} {tree₂} {numbers₂} 
       nums = x .nums;
       nums₂ = rw same at (y .nums);
     }
+
+-- No pool makes the writer tell 14: a path has at most 4,096 bytes, and each level below the root takes one of them at least.
+low-levels : (t : Tree) → WellFormed t → (bytes numbers : ℕ) → ¬ (writeCall (some t) bytes numbers .number ≡ 14)
+unfolding writeCall keyMax
+low-levels t wf bytes numbers e = go (both (leb (length (imageT t)) bytes) (leb (length (numbersT t)) numbers)) refl
+  where
+    low : leb (levelT t) 65535 ≡ true
+    low = le-leb (levelT t) 65535 (omega (arith, level-bound t wf))
+
+    go : (b : Bool) → both (leb (length (imageT t)) bytes) (leb (length (numbersT t)) numbers) ≡ b → ⊥
+    go false g = omega (arith, rw (low, writeCall, g) at e)
+    go true g = omega (arith, rw (low, writeCall, g) at e)
+
+pub never-14 : (l : Lent) → Bytes (l .labels) → (bytes numbers : ℕ) → ¬ (writeCall (treeIn l) bytes numbers .number ≡ 14)
+unfolding writeCall
+never-14 l by bytes numbers e = go (treeIn l) refl
+  where
+    go : (o : Option Tree) → treeIn l ≡ o → ⊥
+    go none f = omega (arith, rw (f, writeCall) at e)
+    go (some t) f = low-levels t (tree-holds (l .words) (l .labels) by t f .wf) bytes numbers (rw f at e)
