@@ -49,7 +49,6 @@ static const char *meaning(uint32_t number)
     case YARNHOLLOW_IMAGE_IDLE_NODE: return "idle node";
     case YARNHOLLOW_IMAGE_NUMBER_COUNT: return "number count";
     case YARNHOLLOW_IMAGE_BYTES_LEFT: return "bytes after the tree";
-    case YARNHOLLOW_LEVEL_OVER: return "level over 65,535";
     }
     return "no number of the store";
 }

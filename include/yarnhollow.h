@@ -54,9 +54,8 @@
  *    11   idle node: neither number nor child                        offset of the record
  *    12   too few numbers; too many                                  offset of the record; the image's length
  *    13   bytes after the tree                                       offset of the first of them
- *    14   a level over 65,535 while writing                          none
  *
- * Where several refusals fit, the first in the order 1, 2, 3, 4, 14, 5 is given; read has an order of its own, the order of
+ * Where several refusals fit, the first in the order 1, 2, 3, 4, 5 is given; read has an order of its own, the order of
  * the image. Each is given exactly in its case.
  *
  * 1 never speaks of a key or an image. Either the lengths are not YARNHOLLOW_LABELS(S) and YARNHOLLOW_WORDS(S) for one S,
@@ -123,8 +122,7 @@ enum yarnhollow_number {
     YARNHOLLOW_IMAGE_SIBLING_ORDER = 10,
     YARNHOLLOW_IMAGE_IDLE_NODE = 11,
     YARNHOLLOW_IMAGE_NUMBER_COUNT = 12,
-    YARNHOLLOW_IMAGE_BYTES_LEFT = 13,
-    YARNHOLLOW_LEVEL_OVER = 14
+    YARNHOLLOW_IMAGE_BYTES_LEFT = 13
 };
 
 /*
@@ -224,7 +222,7 @@ uint32_t yarnhollow_counts(const uint8_t *labels, size_t labels_len, const uint3
 /*
  * Writes the image: tree bytes to the front of `tree`, numbers to the front of `numbers`; the rest of each stays. With 0 the
  * lengths say how much was written, with 5 how much room is needed, and then neither output has changed.
- * Returns 0, 1, 14 or 5. Needs 1 MiB of stack.
+ * Returns 0, 1 or 5. Needs 1 MiB of stack.
  */
 uint32_t yarnhollow_write(const uint8_t *labels, size_t labels_len, const uint32_t *words, size_t words_len,
                           uint8_t *tree, size_t tree_len, uint32_t *numbers, size_t numbers_len,

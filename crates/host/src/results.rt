@@ -116,7 +116,6 @@ pub fn store_written(answer: Written, tree_length: &mut usize, numbers_length: &
             *numbers_length = n;
         }
         Written::NotPool => {}
-        Written::LevelOver => {}
     }
 }
 

@@ -8,16 +8,12 @@ use Prim.Native.Nat.{ℕ, zero, suc, _≤_}
 use native.Mathlib.Omega.{arith}
 use lib.ListN.{length}
 use lib.Dec.{leb}
-use borrow.Author.Tests.{le-leb}
-use Rattle.tree.specs.Key.{Bytes, keyMax}
-use Rattle.tree.specs.Tree.{Tree, WellFormed}
-use Rattle.tree.specs.Image.{imageT, numbersT, levelT}
+use Rattle.tree.specs.Tree.{Tree}
+use Rattle.tree.specs.Image.{imageT, numbersT}
 use Rattle.tree.specs.Told.{Told, done, writtenTold}
 use Rattle.tree.specs.Calls.{both, writeCall}
 use Rattle.tree.specs.declared.Written.{Written}
-use Rattle.tree.proofs.Levels.{level-bound}
 use Rattle.pool.specs.Lent.{Lent, treeIn}
-use Rattle.pool.proofs.Held.{tree-holds}
 use Rattle.writer.specs.Post.{front, after, WriteAllows}
 use Rattle.promises.specs.Pools.{Accepted}
 
@@ -30,12 +26,11 @@ pub record Tells (o : Option Tree) (told : Told) : Type 0 where
 tells : (o : Option Tree) (bytes numbers : ℕ) → Accepted (writeCall o bytes numbers) → Tells o (writeCall o bytes numbers)
 unfolding writeCall
 tells none bytes numbers e = absurd (omega arith)
-tells (some t) bytes numbers e = by (leb (levelT t) 65535) (both (leb (length (imageT t)) bytes) (leb (length (numbersT t)) numbers)) refl refl
+tells (some t) bytes numbers e = go (both (leb (length (imageT t)) bytes) (leb (length (numbersT t)) numbers)) refl
   where
-    by : (a b : Bool) → leb (levelT t) 65535 ≡ a → both (leb (length (imageT t)) bytes) (leb (length (numbersT t)) numbers) ≡ b → Tells (some t) (writeCall (some t) bytes numbers)
-    by false b f g = absurd (omega (arith, rw (f, writeCall) at e))
-    by true false f g = absurd (omega (arith, rw (f, writeCall, g) at e))
-    by true true f g = record { tree = t; held = refl; lengths = rw (f, writeCall, g) }
+    go : (b : Bool) → both (leb (length (imageT t)) bytes) (leb (length (numbersT t)) numbers) ≡ b → Tells (some t) (writeCall (some t) bytes numbers)
+    go false g = absurd (omega (arith, rw (g, writeCall) at e))
+    go true g = record { tree = t; held = refl; lengths = rw (g, writeCall) }
 
 pub record Wrote (l : Lent) (r : Written) (tree numbers tree′ numbers′ : List ℕ) : Type 0 where
   pub whole : Tree
@@ -88,23 +83,3 @@ wrote-same l m e {tree} {numbers} {tree′} {numbers′} {tree₂} {numbers₂} 
       nums = x .nums;
       nums₂ = rw same at (y .nums);
     }
-
--- No pool makes the writer tell 14: a path has at most 4,096 bytes, and each level below the root takes one of them at least.
-low-levels : (t : Tree) → WellFormed t → (bytes numbers : ℕ) → ¬ (writeCall (some t) bytes numbers .number ≡ 14)
-unfolding writeCall keyMax
-low-levels t wf bytes numbers e = go (both (leb (length (imageT t)) bytes) (leb (length (numbersT t)) numbers)) refl
-  where
-    low : leb (levelT t) 65535 ≡ true
-    low = le-leb (levelT t) 65535 (omega (arith, level-bound t wf))
-
-    go : (b : Bool) → both (leb (length (imageT t)) bytes) (leb (length (numbersT t)) numbers) ≡ b → ⊥
-    go false g = omega (arith, rw (low, writeCall, g) at e)
-    go true g = omega (arith, rw (low, writeCall, g) at e)
-
-pub never-14 : (l : Lent) → Bytes (l .labels) → (bytes numbers : ℕ) → ¬ (writeCall (treeIn l) bytes numbers .number ≡ 14)
-unfolding writeCall
-never-14 l by bytes numbers e = go (treeIn l) refl
-  where
-    go : (o : Option Tree) → treeIn l ≡ o → ⊥
-    go none f = omega (arith, rw (f, writeCall) at e)
-    go (some t) f = low-levels t (tree-holds (l .words) (l .labels) by t f .wf) bytes numbers (rw f at e)

@@ -13,7 +13,7 @@ use Rattle.tree.specs.Search.{looksF, looksT, getIn, getT, met, longestI
 use Rattle.tree.specs.Insert.{chain, leaf, beside, insertF, insertT}
 use Rattle.tree.specs.Remove.{joins, settle, eraseF, eraseT, ifStored, removeT}
 use Rattle.tree.specs.Split.{detachF, leaveF, with, splitT}
-use Rattle.tree.specs.Image.{flagsW, flagsF, flags, imageF, imageT, numbersW, numbersF, numbersT, levelF, levelT}
+use Rattle.tree.specs.Image.{flagsW, flagsF, flags, imageF, imageT, numbersW, numbersF, numbersT}
 use Rattle.tree.specs.Told.{Told, done, refusal, refusalAt}
 use Rattle.tree.specs.Reader.{judge, below, numberOf, numbersPast, overKids, readNode, overRest, readKids, readT}
 use Rattle.tree.specs.Calls.{Outcome, refuses, leaves, SplitOutcome, refusesBoth, leavesBoth, fits, numberTold, longestTold, getCall, insertCall, longestCall, sharedCall, removeTold, removeCall, splitTold, splitCall, both, writeCall, readTold, readCall}

@@ -1,5 +1,7 @@
--- No level of a well-formed tree exceeds 4,096: each level adds a byte to the path. Assumes nothing.
-use Prim.Native.Nat.{ℕ, _+_, _≤_, suc}
+-- No level of a well-formed tree exceeds 4,096, for each level adds a byte to the path; so each level of an image fits in its
+-- two bytes. Assumes nothing.
+use mathlib.Core.Path.{_≡_}
+use Prim.Native.Nat.{ℕ, _+_, _*_, _/_, _%_, _≤_, _<_, suc}
 use native.Mathlib.Omega.{arith}
 use lib.ListN.{length}
 use Rattle.tree.specs.Key.{keyMax}
@@ -18,3 +20,13 @@ level-within n s (node b l u kids rest) h w =
 pub level-bound : (t : Tree) → WellFormed t → levelT t ≤ keyMax
 unfolding levelT
 level-bound t w = level-within 1 0 (t .kids) (omega arith) w
+
+-- The two bytes that a level is written in, high and low, are bytes, and give it back.
+pub record TwoBytes (n : ℕ) : Type 0 where
+  pub high : n / 256 < 256
+  pub low : n % 256 < 256
+  pub whole : 256 * (n / 256) + n % 256 ≡ n
+
+pub level-fits : (t : Tree) → WellFormed t → (n : ℕ) → n ≤ levelT t → TwoBytes n
+unfolding keyMax
+level-fits t w n h = record { high = omega (arith, level-bound t w); low = omega arith; whole = omega arith }

@@ -197,12 +197,11 @@ writtens =
 
 pub written-one : (a b : Written) → writtenTold a ≡ writtenTold b → a ≡ b
 unfolding by writtens
-written-one = retract writtenTold (by writtens Written.LevelOver) back
+written-one = retract writtenTold (by writtens Written.NotPool) back
   where
-    back : (a : Written) → by writtens Written.LevelOver (writtenTold a) ≡ a
+    back : (a : Written) → by writtens Written.NotPool (writtenTold a) ≡ a
     back (Written.Lengths b n) = refl
     back Written.NotPool = refl
-    back Written.LevelOver = refl
     back (Written.Short b n) = refl
 
 loadeds : Table Loaded

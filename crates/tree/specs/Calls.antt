@@ -1,6 +1,6 @@
 -- What each public call tells and leaves, for every input. A pool counts by the tree that it holds: none where it is no
 -- pool. Of a pool to be made, read into or split into only its number of slots counts: none where its lengths are wrong.
--- The order of the refusals is 1, 2, 3, 4, 14, 5.
+-- The order of the refusals is 1, 2, 3, 4, 5.
 use mathlib.Core.List.{List, [], _∷_}
 use mathlib.Core.Option.{Option, none, some}
 use mathlib.Core.Bool.{Bool, true, false}
@@ -15,7 +15,7 @@ use Rattle.tree.specs.Insert.{insertT}
 use Rattle.tree.specs.Remove.{removeT, clearT}
 use Rattle.tree.specs.Split.{Halves, absent, halves, splitT}
 use Rattle.tree.specs.Walk.{stepT}
-use Rattle.tree.specs.Image.{imageT, numbersT, numbersW, levelT}
+use Rattle.tree.specs.Image.{imageT, numbersT, numbersW}
 use Rattle.tree.specs.Reader.{Verdict, refusedWith, ok, readT}
 use Rattle.tree.specs.Told.{Told, done, refusal, refusalAt}
 
@@ -132,10 +132,7 @@ writeCall none bytes numbers = refusal 1
 writeCall (some t) bytes numbers =
     let b = length (imageT t) in
     let n = length (numbersT t) in
-    elim (leb (levelT t) 65535) [
-      | false ↦ refusal 14
-      | true ↦ elim (both (leb b bytes) (leb n numbers)) [ false ↦ record { number = 5; values = b ∷ n ∷ [] } | true ↦ done (b ∷ n ∷ []) ]
-    ]
+    elim (both (leb b bytes) (leb n numbers)) [ false ↦ record { number = 5; values = b ∷ n ∷ [] } | true ↦ done (b ∷ n ∷ []) ]
 
 unfoldable pub readTold : Verdict → Outcome
 readTold (refusedWith x) = refuses x

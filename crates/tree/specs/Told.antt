@@ -78,7 +78,6 @@ countedTold Counted.NotPool = refusal 1
 abbrev pub writtenTold : Written → Told
 writtenTold (Written.Lengths b n) = done (b ∷ n ∷ [])
 writtenTold Written.NotPool = refusal 1
-writtenTold Written.LevelOver = refusal 14
 writtenTold (Written.Short b n) = record { number = 5; values = b ∷ n ∷ [] }
 
 abbrev pub loadedTold : Loaded → Told

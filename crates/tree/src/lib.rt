@@ -87,7 +87,6 @@ pub enum Counted {
 pub enum Written {
     Lengths(usize, usize),
     NotPool,
-    LevelOver,
     Short(usize, usize),
 }
 
@@ -217,7 +216,6 @@ impl Written {
         match self {
             Written::Lengths(_, _) => 0,
             Written::NotPool => 1,
-            Written::LevelOver => 14,
             Written::Short(_, _) => 5,
         }
     }

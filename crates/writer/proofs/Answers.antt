@@ -11,7 +11,7 @@ use lib.Dec.{leb}
 use borrow.Author.Tests.{le-leb, lt-leb}
 use Rattle.tree.specs.Key.{Bytes}
 use Rattle.tree.specs.Tree.{Tree}
-use Rattle.tree.specs.Image.{imageT, numbersT, levelT}
+use Rattle.tree.specs.Image.{imageT, numbersT}
 use Rattle.tree.specs.Told.{done, refusal}
 use Rattle.tree.specs.Calls.{both, writeCall}
 use Rattle.pool.specs.Layout.{nodesOf}
@@ -24,11 +24,9 @@ use Rattle.pool.proofs.Held.{tree-holds}
 use Rattle.pool.proofs.Answers.{no-rule}
 use Rattle.writer.specs.Post.{after, Writes}
 use Rattle.writer.specs.Parts.{recordSum, numbersIn}
-use Rattle.writer.specs.Runs.{Reads, TreeRoom, Deepest, TreePut}
+use Rattle.writer.specs.Runs.{TreeRoom, TreePut}
 use Rattle.writer.proofs.Lists.{front-put}
-use Rattle.writer.proofs.Split.{root-run}
 use Rattle.writer.proofs.Totals.{image-sum, number-sum, numbers-are}
-use Rattle.writer.proofs.Whole.{all-within}
 
 -- The call's answer by its tests
 both-first : (x y : Bool) → x ≡ false → both x y ≡ false
@@ -45,20 +43,16 @@ module _ (t : Tree) (room spare : ℕ) where
   abbrev lengths : List ℕ
   lengths = length (imageT t) ∷ length (numbersT t) ∷ []
 
-  answer-over : 65535 < levelT t → refusal 14 ≡ writeCall (some t) room spare
-  unfolding writeCall
-  answer-over h = rw (lt-leb (levelT t) 65535 h, writeCall)
-
-  answer-short : levelT t ≤ 65535 → both (leb (length (imageT t)) room) (leb (length (numbersT t)) spare) ≡ false
+  answer-short : both (leb (length (imageT t)) room) (leb (length (numbersT t)) spare) ≡ false
       → record { number = 5; values = lengths } ≡ writeCall (some t) room spare
   unfolding writeCall
-  answer-short h e = rw (le-leb (levelT t) 65535 h, writeCall) (rw e)
+  answer-short e = rw (e, writeCall)
 
-  answer-done : levelT t ≤ 65535 → length (imageT t) ≤ room → length (numbersT t) ≤ spare → done lengths ≡ writeCall (some t) room spare
+  answer-done : length (imageT t) ≤ room → length (numbersT t) ≤ spare → done lengths ≡ writeCall (some t) room spare
   unfolding writeCall
-  answer-done h i j =
+  answer-done i j =
       let e = both-second (leb (length (imageT t)) room) (leb (length (numbersT t)) spare) (le-leb (length (imageT t)) room i) in
-      rw (le-leb (levelT t) 65535 h, writeCall) (rw (e ∙ le-leb (length (numbersT t)) spare j))
+      rw (e ∙ le-leb (length (numbersT t)) spare j, writeCall)
 
 -- No pool: nothing is written.
 pub write-refused : (ws bs tree numbers : List ℕ) → (PoolRule ws bs → ⊥) → Writes (poolTree ws bs) (refusal 1) tree numbers tree numbers
@@ -78,19 +72,6 @@ known {ws} {bs} {n} r by e =
     record { tree = t .0; is = t .1; holds = tree-holds ws bs by (t .0) (t .1); nodes = e }
 
 module _ {ws bs : List ℕ} {n : ℕ} (k : Known ws bs n) where
-  pub asks-deepest : Reads ws 1 n 1
-  asks-deepest =
-      record {
-        words = all-within ws bs (k .tree) n (k .holds) (omega (arith, k .nodes)) .words;
-        labels = bs;
-        forest = k .tree .kids;
-        run = root-run ws bs (k .tree) n (k .holds) (k .nodes);
-      }
-
-  deep-is : {deep : ℕ} → Deepest ws 1 n 1 deep → deep ≡ levelT (k .tree)
-  unfolding levelT
-  deep-is e = e bs (k .tree .kids) (root-run ws bs (k .tree) n (k .holds) (k .nodes))
-
   bytes-are : {bytes : ℕ} → bytes ≡ recordSum ws n → bytes ≡ length (imageT (k .tree))
   bytes-are e = e ∙ ap (recordSum ws) (k .nodes) ∙ image-sum ws bs (k .tree) (k .holds)
 
@@ -112,20 +93,13 @@ module _ {ws bs : List ℕ} {n : ℕ} (k : Known ws bs n) where
   unfolding after
   stays tree numbers m vs e = rw (k .is) (record { said = e; bytes = refl; nums = refl })
 
-  -- A level that two bytes do not hold
-  pub write-over : (tree numbers : List ℕ) {deep : ℕ} → Deepest ws 1 n 1 deep → 65535 < deep → Writes (poolTree ws bs) (refusal 14) tree numbers tree numbers
-  write-over tree numbers e h = stays tree numbers 13 [] (answer-over (k .tree) (length tree) (length numbers) (omega (arith, deep-is e)))
-
-  module _ (tree numbers : List ℕ) {deep bytes keys : ℕ} (ed : Deepest ws 1 n 1 deep) (low : deep ≤ 65535) (eb : bytes ≡ recordSum ws n) (ek : keys ≡ hasSum ws n) where
-    level-low : levelT (k .tree) ≤ 65535
-    level-low = omega (arith, deep-is ed)
-
+  module _ (tree numbers : List ℕ) {bytes keys : ℕ} (eb : bytes ≡ recordSum ws n) (ek : keys ≡ hasSum ws n) where
     told-lengths : bytes ∷ keys ∷ [] ≡ lengths (k .tree) (length tree) (length numbers)
     told-lengths = rw (bytes-are eb, keys-are ek)
 
     short : both (leb (length (imageT (k .tree))) (length tree)) (leb (length (numbersT (k .tree))) (length numbers)) ≡ false
         → Writes (poolTree ws bs) (record { number = 5; values = bytes ∷ keys ∷ [] }) tree numbers tree numbers
-    short e = rw told-lengths (stays tree numbers 4 _ (answer-short (k .tree) (length tree) (length numbers) level-low e))
+    short e = rw told-lengths (stays tree numbers 4 _ (answer-short (k .tree) (length tree) (length numbers) e))
 
     -- An output that is too short, the first or the second
     pub write-short-tree : length tree < bytes → Writes (poolTree ws bs) (record { number = 5; values = bytes ∷ keys ∷ [] }) tree numbers tree numbers
@@ -150,7 +124,7 @@ module _ {ws bs : List ℕ} {n : ℕ} (k : Known ws bs n) where
         let m : numbers′ ≡ sets numbers 0 (numbersT u) = q ∙ ap (sets numbers 0) all-numbers in
         rw (k .is, told-lengths)
         (record {
-          said = answer-done u (length tree) (length numbers) level-low b j;
+          said = answer-done u (length tree) (length numbers) b j;
           bytes = p u (k .is) ∙ front-put (imageT u) tree b;
           nums = m ∙ front-put (numbersT u) numbers j;
         })

@@ -11,7 +11,7 @@ use borrow.Author.Tests.{lt-ltb, le-ltb}
 use Rattle.tree.specs.Key.{Key, keyMax}
 use Rattle.tree.specs.Map.{Num}
 use Rattle.tree.specs.Tree.{Forest, nil, node, Tree, nodesF, keysW, room}
-use Rattle.tree.specs.Image.{flags, imageF, imageT, levelF}
+use Rattle.tree.specs.Image.{flags, imageF, imageT}
 use Rattle.flags.specs.Flags.{flagByte}
 use Rattle.flags.proofs.Judged.{numbered, peopled, flag-byte-is}
 use Rattle.pool.specs.Layout.{nodesOf, lenOf, hasOf, spanOf}
@@ -137,9 +137,6 @@ module _ (ws bs : List ℕ) (c e level : ℕ) (f : Forest) (s : Split ws bs c e 
   pub image-length : length (imageF level f) ≡ 4 + lenOf ws c + length (imageF (level + 1) (s .kids)) + length (imageF level (s .rest))
   image-length =
       ap length image-is ∙ simp length-append (omega (arith, record-length))
-
-  pub level-is : levelF level f ≡ max level (max (levelF (level + 1) (s .kids)) (levelF level (s .rest)))
-  level-is = rw (s .whole) (unfold levelF in refl)
 
 -- The root's record
 pub root-record : (ws bs : List ℕ) (t : Tree) → Holds ws bs t → recordAt ws bs 0 0 false ++ imageF 1 (t .kids) ≡ imageT t

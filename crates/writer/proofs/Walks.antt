@@ -1,60 +1,23 @@
--- A turn of each loop that goes along siblings. Assumes nothing.
+-- A turn of the loop that goes along siblings. Assumes nothing.
 use mathlib.Core.Path.{_≡_, refl, sym, ap, _∙_, subst}
 use mathlib.Core.List.{List, [], _++_, append-assoc, append-nil}
-use Prim.Native.Nat.{ℕ, _+_, _*_, _≤_, _<_, max}
+use Prim.Native.Nat.{ℕ, _+_, _*_, _≤_, _<_}
 use native.Mathlib.Omega.{arith}
 use lib.ListN.{length, length-append}
 use lib.Dec.{ltb}
 use Rattle.tree.specs.Tree.{Forest, node}
-use Rattle.tree.specs.Image.{imageF, levelF}
+use Rattle.tree.specs.Image.{imageF}
 use Rattle.pool.specs.Layout.{lenOf, spanOf}
 use Rattle.pool.specs.Rule.{Within}
 use Rattle.writer.specs.Parts.{recordAt}
-use Rattle.writer.specs.Runs.{Run, Reads, Room, Put, RecordRoom, Deepest, RunPut}
+use Rattle.writer.specs.Runs.{Run, Room, Put, RecordRoom, RunPut}
 use Rattle.writer.proofs.Lists.{put-none, put-more, put-as, put-length}
-use Rattle.writer.proofs.Split.{Split, split, run-empty, image-is, record-length, image-length, level-is}
+use Rattle.writer.proofs.Split.{Split, split, run-empty, image-is, record-length, image-length}
 
 -- the run with its end under another name
 run-at : {ws bs : List ℕ} {c c′ e e′ level : ℕ} {f : Forest} → c ≡ c′ → e ≡ e′ → Run ws bs c e level f → Run ws bs c′ e′ level f
 run-at {ws} {bs} {c} {c′} {e} {e′} {level} {f} p q r =
     subst (λ (x : ℕ). Run ws bs x e′ level f) p (subst (λ (x : ℕ). Run ws bs c x level f) q r)
-
--- Of the forest f the siblings from slot c on are left; deep is the deepest level of those passed.
-pub record Down (ws bs : List ℕ) (c e level deep : ℕ) (f : Forest) : Type 0 where
-  pub rest : Forest
-  pub run : Run ws bs c e level rest
-  pub found : levelF level f ≡ max deep (levelF level rest)
-
-pub down-none : {ws bs : List ℕ} {c e level : ℕ} {f : Forest} → Run ws bs c e level f → Down ws bs c e level 0 f
-down-none {ws} {bs} {c} {e} {level} {f} r = record { rest = f; run = r; found = omega arith }
-
--- the node that stands at slot c
-pub step : {ws bs : List ℕ} {c e level deep : ℕ} {f : Forest} (d : Down ws bs c e level deep f) → c < e → Split ws bs c e level (d .rest)
-step {ws} {bs} {c} {e} {level} {deep} {f} d h = split ws bs c e level (d .rest) (d .run) h
-
-pub down-step : {ws bs : List ℕ} {c e level deep : ℕ} {f : Forest} → Down ws bs c e level deep f → c < e
-    → {next below deep′ : ℕ} → next ≡ c + spanOf ws c → Deepest ws (c + 1) next (level + 1) below → deep′ ≡ max deep (max level below)
-    → Down ws bs next e level deep′ f
-down-step {ws} {bs} {c} {e} {level} {deep} {f} d h {next} {below} {deep′} q k m =
-    let s = step d h in
-    let b = k bs (s .kids) (run-at refl (sym q) (s .below)) in
-    record {
-      rest = s .rest;
-      run = run-at (sym q) refl (s .beside);
-      found = omega (arith, d .found, level-is ws bs c e level (d .rest) s);
-    }
-
-pub down-done : {ws bs : List ℕ} {c e level deep : ℕ} {f : Forest} → Down ws bs c e level deep f → e ≤ c → deep ≡ levelF level f
-down-done {ws} {bs} {c} {e} {level} {deep} {f} d h =
-    let z : levelF level (d .rest) ≡ 0 = rw (run-empty ws bs c e level (d .rest) (d .run) h) (unfold levelF in refl) in
-    omega (arith, d .found)
-
--- what the call for the children asks
-pub down-reads : {ws bs : List ℕ} {c e level deep : ℕ} {f : Forest} → Down ws bs c e level deep f → c < e → 6 * e + 8 ≤ length ws
-    → {next : ℕ} → next ≡ c + spanOf ws c → Reads ws (c + 1) next (level + 1)
-down-reads {ws} {bs} {c} {e} {level} {deep} {f} d h i {next} q =
-    let s = step d h in
-    record { words = omega (arith, s .inside); labels = bs; forest = s .kids; run = run-at refl (sym q) (s .below) }
 
 -- Of the forest f the siblings from slot c on are left to write; the others' image has been put.
 pub record Along (ws bs : List ℕ) (c e level : ℕ) (out₀ : List ℕ) (start : ℕ) (out : List ℕ) (place : ℕ) (f : Forest) : Type 0 where

@@ -6,7 +6,7 @@ use Prim.Native.Nat.{ℕ, _+_, _*_, _≤_, _<_}
 use lib.ListN.{length}
 use lib.Seq.{sets}
 use Rattle.tree.specs.Tree.{Forest, Tree, Wf, nodesF}
-use Rattle.tree.specs.Image.{imageF, imageT, levelF}
+use Rattle.tree.specs.Image.{imageF, imageT}
 use Rattle.pool.specs.Layout.{lenOf}
 use Rattle.pool.specs.Records.{recsFrom, recsF}
 use Rattle.pool.specs.Rule.{Within}
@@ -20,13 +20,6 @@ pub record Run (ws bs : List ℕ) (c e level : ℕ) (f : Forest) : Type 0 where
   pub ends : c + nodesF f ≡ e
   pub wf : Wf path f
   pub shallow : level ≤ path + 1
-
--- A run within the words
-pub record Reads (ws : List ℕ) (c e level : ℕ) : Type 0 where
-  pub words : 6 * e + 8 ≤ length ws
-  pub labels : List ℕ
-  pub forest : Forest
-  pub run : Run ws labels c e level forest
 
 -- A run within the words and labels, whose image has room at a place of an output
 pub record Room (ws bs : List ℕ) (c e level : ℕ) (out : List ℕ) (place : ℕ) : Type 0 where
@@ -52,10 +45,6 @@ pub record TreeRoom (ws bs out : List ℕ) : Type 0 where
   pub tree : Tree
   pub holds : poolTree ws bs ≡ some tree
   pub fits : length (imageT tree) ≤ length out
-
--- r is the deepest level of the forest that stands there.
-abbrev pub Deepest : (ws : List ℕ) (c e level r : ℕ) → Type 0
-Deepest ws c e level r = (bs : List ℕ) (f : Forest) → Run ws bs c e level f → r ≡ levelF level f
 
 -- The image of the forest that stands there has been put at a place of the output.
 abbrev pub RunPut : (ws bs : List ℕ) (c e level : ℕ) (out : List ℕ) (place : ℕ) (out′ : List ℕ) (next : ℕ) → Type 0

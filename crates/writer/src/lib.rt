@@ -2,7 +2,7 @@
 // `Node::serialize` of the Rust, whose stack of levels is a cycle of calls here.
 ghost use mathlib.Core.Path.{_≡_};
 ghost use mathlib.Core.List.{[]};
-ghost use Prim.Native.Nat.{_+_, _*_, _≤_, max};
+ghost use Prim.Native.Nat.{_+_, _*_, _≤_};
 ghost use lib.ListN.{length};
 ghost use lib.Seq.{sets};
 ghost use Rattle.tree.specs.Image.{numbersW};
@@ -10,45 +10,10 @@ ghost use Rattle.pool.specs.Layout.{numAt};
 ghost use Rattle.pool.specs.Lent.{before};
 ghost use Rattle.writer.specs.Post.{WriteAllows};
 ghost use Rattle.writer.specs.Parts.{recordAt, recordSum, numbersIn};
-ghost use Rattle.writer.specs.Runs.{Reads, Room, Put, RecordRoom, TreeRoom, Deepest, RunPut, TreePut};
+ghost use Rattle.writer.specs.Runs.{Room, Put, RecordRoom, TreeRoom, RunPut, TreePut};
 use tree::Level;
 use tree::Slot;
 use tree::Written;
-
-// A level is written in two bytes.
-const LEVEL_MAX: usize = 65535;
-
-// The deeper of two levels.
-fn deeper(a: Level, b: Level) -> Level
-    ensures { λ r. ⌜ r .0 ≡ max (a .0) (b .0) ⌝ }
-{
-    if a.0 < b.0 {
-        return b;
-    }
-    a
-}
-
-// The deepest level of the siblings in the slots from .. end and of all below them; 0 where there are none. A loop goes
-// along the siblings, and a call down to the children of each that has any.
-fn deepest(words: &[u32], from: Slot, end: Slot, level: Level) -> Level
-    requires { ⌜ Reads (now words) (from .0) (end .0) (level .0) ⌝ }
-    ensures { λ r. ⌜ Deepest (now (words .entry)) (from .0) (end .0) (level .0) (r .0) ⌝ }
-{
-    let mut deep = Level(0);
-    let mut c = from.0;
-    while c < end.0 {
-        let next = c + pool::span_at(words, Slot(c));
-        if next <= c + 1 {
-            deep = deeper(deep, level);
-            c = next;
-            continue;
-        }
-        let below = deepest(words, Slot(c + 1), Slot(next), Level(level.0 + 1));
-        deep = deeper(deep, deeper(level, below));
-        c = next;
-    }
-    deep
-}
 
 // How many bytes the image of n slots has: each record is four bytes and its label.
 fn image_length(words: &[u32], n: usize) -> usize
@@ -178,10 +143,6 @@ pub fn write(labels: &[u8], words: &[u32], tree: &mut [u8], numbers: &mut [u32])
         return Written::NotPool;
     }
     let n = pool::nodes_in(words);
-    let deep = deepest(words, Slot(1), Slot(n), Level(1));
-    if deep.0 > LEVEL_MAX {
-        return Written::LevelOver;
-    }
     let bytes = image_length(words, n);
     let keys = pool::keys_in(words, n);
     if tree.len() < bytes {

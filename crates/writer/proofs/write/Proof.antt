@@ -5,7 +5,7 @@ use borrow.Author.Needs.{needs}
 use borrow.Author.Tests.{not-true, not-false}
 use Rattle.pool.specs.Rule.{PoolRule}
 use Rattle.pool.proofs.Answers.{bytes-of}
-use Rattle.writer.proofs.Answers.{Known, known, write-refused, asks-deepest, tree-room, numbers-counted, write-over, write-short-tree, write-short-numbers, write-done}
+use Rattle.writer.proofs.Answers.{Known, known, write-refused, tree-room, numbers-counted, write-short-tree, write-short-numbers, write-done}
 use Rattle.writer.proofs.write.Statement.{statement}
 use Rattle.writer.proofs.write.Tie as tie
 
@@ -32,12 +32,6 @@ returns c = write-refused _ _ _ _ (c .before .is-pool .ensures .no (not-true _ (
 nodes-in-requires : tie.Need-nodes-in-requires
 nodes-in-requires c κs = omega (arith, rule-at c)
 
-deepest-requires : tie.Need-deepest-requires
-deepest-requires c κs = asks-deepest (known-at c)
-
-returns-2 : tie.Need-returns-2
-returns-2 c = search (known-at, write-over)
-
 image-length-requires : tie.Need-image-length-requires
 image-length-requires c κs = omega (arith, rule-at (search))
 
@@ -46,11 +40,11 @@ keys-in-requires c κs =
     let r = rule-at (search) in
     (omega (arith, r), omega (arith, r), λ i l. r .each i (omega (arith, r)) .has)
 
-returns-3 : tie.Need-returns-3
-returns-3 c = search (known-at, write-short-tree)
+returns-2 : tie.Need-returns-2
+returns-2 c = search (known-at, write-short-tree)
 
-returns-4 : tie.Need-returns-4
-returns-4 c = search (known-at, write-short-numbers)
+returns-3 : tie.Need-returns-3
+returns-3 c = search (known-at, write-short-numbers)
 
 write-tree-requires : tie.Need-write-tree-requires
 write-tree-requires c κs = search (known-at, tree-room)
@@ -58,13 +52,13 @@ write-tree-requires c κs = search (known-at, tree-room)
 write-numbers-requires : tie.Need-write-numbers-requires
 write-numbers-requires c κs = (omega (arith, rule-at (search)), omega (arith, numbers-counted (known-at (search))))
 
-returns-5 : tie.Need-returns-5
-returns-5 c = search (known-at, write-done)
+returns-4 : tie.Need-returns-4
+returns-4 c = search (known-at, write-done)
 
 pub write-spec : {M : Type 1} → statement M
 write-spec =
     tie.close
     (tie.spec (λ c κs. search needs) returns nodes-in-requires
-    deepest-requires returns-2 image-length-requires keys-in-requires
-    returns-3 returns-4 write-tree-requires write-numbers-requires
-    (λ c. search needs) (λ c. search needs) returns-5)
+    image-length-requires keys-in-requires
+    returns-2 returns-3 write-tree-requires write-numbers-requires
+    (λ c. search needs) (λ c. search needs) returns-4)
