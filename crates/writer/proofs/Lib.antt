@@ -1,8 +1,8 @@
 pub mod Lists
 pub mod Record
-pub mod Split
+pub mod Flags
 pub mod Totals
-pub mod Walks
+pub mod Rows
 pub mod Whole
 pub mod Answers
 pub mod Decided

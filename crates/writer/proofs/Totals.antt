@@ -20,7 +20,7 @@ use Rattle.pool.proofs.Sums.{sum-keys}
 use Rattle.writer.specs.Parts.{recordSum, numbersIn}
 use Rattle.writer.specs.Runs.{Put}
 use Rattle.writer.proofs.Lists.{put-none, put-more, put-as}
-use Rattle.writer.proofs.Split.{image-node}
+use Rattle.writer.proofs.Flags.{image-node}
 
 pub sum-more : (ws : List ℕ) (n : ℕ) → recordSum ws (n + 1) ≡ recordSum ws n + (4 + lenOf ws n)
 sum-more ws n = rw add-one (unfold recordSum in refl)

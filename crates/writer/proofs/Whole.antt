@@ -11,12 +11,23 @@ use Rattle.tree.specs.Image.{imageF, imageT}
 use Rattle.pool.specs.Layout.{nodesOf}
 use Rattle.pool.specs.Records.{rootRec}
 use Rattle.pool.specs.Rule.{Within}
-use Rattle.pool.proofs.Stands.{Holds}
+use Rattle.pool.proofs.Stands.{Holds, nodes-are, stands-recs}
 use Rattle.pool.proofs.Held.{SlotIs, slot-is-rec, tree-holds}
 use Rattle.writer.specs.Parts.{recordAt}
-use Rattle.writer.specs.Runs.{Room, Put, RecordRoom, TreeRoom, RunPut, TreePut}
+use Rattle.writer.specs.Runs.{Run, Room, Put, RecordRoom, TreeRoom, RunPut, TreePut}
 use Rattle.writer.proofs.Lists.{put-more, put-as, put-length}
-use Rattle.writer.proofs.Split.{root-run, root-record}
+use Rattle.writer.proofs.Flags.{root-record}
+
+-- The children of a pool's root
+root-run : (ws bs : List ℕ) (t : Tree) (n : ℕ) → Holds ws bs t → n ≡ nodesOf ws → Run ws bs 1 n 1 (t .kids)
+root-run ws bs t n h e =
+    record {
+      path = 0;
+      recs = stands-recs ws bs 0 (t .kids) 1 (h .kids);
+      ends = omega (arith, h .nodes, nodes-are t);
+      wf = h .wf;
+      shallow = omega arith;
+    }
 
 -- the slots in use lie within the buffers
 pub all-within : (ws bs : List ℕ) (t : Tree) (n : ℕ) → Holds ws bs t → n ≤ nodesOf ws → Within ws bs n

@@ -1,15 +1,15 @@
 // The image of the tree that a pool holds: tree bytes into one output, stored numbers into another. Counterpart:
-// `Node::serialize` of the Rust, whose stack of levels is a cycle of calls here.
+// `Node::serialize` of the Rust, whose stack of levels is a table by the start of a slot here.
 ghost use mathlib.Core.Path.{_≡_};
 ghost use mathlib.Core.List.{[]};
-ghost use Prim.Native.Nat.{_+_, _*_, _≤_};
+ghost use Prim.Native.Nat.{_+_, _*_, _≤_, _<_};
 ghost use lib.ListN.{length};
 ghost use lib.Seq.{sets};
 ghost use Rattle.tree.specs.Image.{numbersW};
 ghost use Rattle.pool.specs.Layout.{numAt};
 ghost use Rattle.pool.specs.Lent.{before};
 ghost use Rattle.writer.specs.Post.{WriteAllows};
-ghost use Rattle.writer.specs.Parts.{recordAt, recordSum, numbersIn};
+ghost use Rattle.writer.specs.Parts.{recordAt, followsAt, Followed, recordSum, numbersIn};
 ghost use Rattle.writer.specs.Runs.{Room, Put, RecordRoom, TreeRoom, RunPut, TreePut};
 use tree::Level;
 use tree::Slot;
@@ -58,52 +58,58 @@ fn write_record(
     next
 }
 
-// Writes the siblings in the slots from .. end with all below them, and gives the place behind them. A loop goes along
-// the siblings, and a call down to the children of each that has any. Counterpart: the loop of `Node::serialize` over its stack.
-fn write_siblings(
-    labels: &[u8],
-    words: &[u32],
-    from: Slot,
-    end: Slot,
-    level: Level,
-    out: &mut [u8],
-    at: usize,
-) -> usize
-    requires { ⌜ Room (now words) (now labels) (from .0) (end .0) (level .0) (now out) at ⌝ }
-    ensures { λ r. ⌜ RunPut (now (words .entry)) (now (labels .entry)) (from .0) (end .0) (level .0) (now (out .entry)) at (now (out .exit)) r ⌝ }
+// Whether a younger sibling of the slot follows: the slot behind its span, of n, starts where it does.
+fn follows(words: &[u32], slot: Slot, n: usize) -> bool
+    requires { ⌜ Followed (now words) (slot .0) n ⌝ }
+    ensures { λ r. ⌜ r ≡ followsAt (now (words .entry)) (slot .0) n ⌝ }
 {
-    let mut c = from.0;
+    let next = slot.0 + pool::span_at(words, slot);
+    if next >= n {
+        return false;
+    }
+    pool::start_at(words, Slot(next)) == pool::start_at(words, slot)
+}
+
+// A level as the table keeps it.
+fn wide(x: u16) -> usize
+    ensures { λ r. ⌜ (r ≡ x) × (r < 65536) ⌝ }
+{
+    x as usize
+}
+
+// Writes the slots below the root, from slot 1 up to slot n, and gives the place behind them. They stand in the order of the
+// image, so one loop goes over them. A node's children start where its label ends: there each node leaves their level, and
+// each finds its own. What starts farther up stays in the table until all below it has been passed.
+// Counterpart: the loop of `Node::serialize` over its stack.
+fn write_slots(labels: &[u8], words: &[u32], n: usize, out: &mut [u8], at: usize) -> usize
+    requires { ⌜ Room (now words) (now labels) 1 n 1 (now out) at ⌝ }
+    ensures { λ r. do
+      let ws = now (words .entry)
+      ⌜ RunPut ws (now (labels .entry)) 1 n 1 (now (out .entry)) at (now (out .exit)) r ⌝ }
+{
+    let mut levels = [1u16; 4097];
+    let mut i: usize = 1;
     let mut place = at;
-    while c < end.0 {
-        let next = c + pool::span_at(words, Slot(c));
-        let kids = write_record(labels, words, Slot(c), level, next < end.0, out, place);
-        if next <= c + 1 {
-            place = kids;
-            c = next;
-            continue;
-        }
-        place = write_siblings(
-            labels,
-            words,
-            Slot(c + 1),
-            Slot(next),
-            Level(level.0 + 1),
-            out,
-            kids,
-        );
-        c = next;
+    while i < n {
+        let start = pool::start_at(words, Slot(i));
+        let end = start + pool::len_at(words, Slot(i));
+        let level = wide(levels[start]);
+        levels[end] = (level + 1) as u16;
+        let sibling = follows(words, Slot(i), n);
+        place = write_record(labels, words, Slot(i), Level(level), sibling, out, place);
+        i += 1;
     }
     place
 }
 
-// Writes the whole tree to the front of the output: the root at level 0, which has no sibling, and its children.
+// Writes the whole tree to the front of the output: the root at level 0, which has no sibling, and all below it.
 fn write_tree(labels: &[u8], words: &[u32], out: &mut [u8])
     requires { ⌜ TreeRoom (now words) (now labels) (now out) ⌝ }
     ensures { λ _. ⌜ TreePut (now (words .entry)) (now (labels .entry)) (now (out .entry)) (now (out .exit)) ⌝ }
 {
     let n = pool::nodes_in(words);
-    let kids = write_record(labels, words, Slot(0), Level(0), false, out, 0);
-    write_siblings(labels, words, Slot(1), Slot(n), Level(1), out, kids);
+    let below = write_record(labels, words, Slot(0), Level(0), false, out, 0);
+    write_slots(labels, words, n, out, below);
 }
 
 // Writes the number of one slot, if it has one, and gives the place behind it. Counterpart: what `Node::serialize` pushes

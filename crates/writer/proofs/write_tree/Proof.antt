@@ -16,12 +16,12 @@ nodes-in-requires c κs = words-there (bytes-at (c .before .before)) (c .before 
 write-record-requires : tie.Need-write-record-requires
 write-record-requires c κs = root-room (bytes-at (c .before .before .before .before)) (c .before .before .before .before .before .pre)
 
-write-siblings-requires : tie.Need-write-siblings-requires
-write-siblings-requires c κs = kids-room (bytes-at (c .before .before .before .before .before .before .before .before)) (c .before .before .before .before .before .before .before .before .before .pre) (c .before .before .before .before .before .nodes-in .ensures .0) (c .before .before .before .write-record .ensures)
+write-slots-requires : tie.Need-write-slots-requires
+write-slots-requires c κs = kids-room (bytes-at (c .before .before .before .before .before .before .before .before)) (c .before .before .before .before .before .before .before .before .before .pre) (c .before .before .before .before .before .nodes-in .ensures .0) (c .before .before .before .write-record .ensures)
 
 returns : tie.Need-returns
 returns c =
-    tree-put (bytes-at (c .before .before .before .before .before .before .before .before .before .before .before)) (c .before .before .before .before .before .before .before .before .before .before .before .before .pre) (c .before .before .before .before .before .before .before .before .nodes-in .ensures .0) (c .before .before .before .before .before .before .write-record .ensures) (c .before .before .write-siblings .ensures)
+    tree-put (bytes-at (c .before .before .before .before .before .before .before .before .before .before .before)) (c .before .before .before .before .before .before .before .before .before .before .before .before .pre) (c .before .before .before .before .before .before .before .before .nodes-in .ensures .0) (c .before .before .before .before .before .before .write-record .ensures) (c .before .before .write-slots .ensures)
 
 pub write-tree-spec : {M : Type 1} → statement M
-write-tree-spec = tie.close (tie.spec nodes-in-requires write-record-requires write-siblings-requires (λ c. search needs) returns)
+write-tree-spec = tie.close (tie.spec nodes-in-requires write-record-requires write-slots-requires (λ c. search needs) returns)
