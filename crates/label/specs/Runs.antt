@@ -1,7 +1,7 @@
--- What the moves of runs leave, place by place.
+-- Bytes as a number and first bytes as an order; what the moves of runs leave, place by place.
 use mathlib.Core.Path.{_≡_}
 use mathlib.Core.List.{List}
-use Prim.Native.Nat.{ℕ, _+_, _-_, _≤_, _<_, Ordering, Ordering·lt, Ordering·eq, Ordering·gt}
+use Prim.Native.Nat.{ℕ, _+_, _*_, _-_, _≤_, _<_, Ordering, Ordering·lt, Ordering·eq, Ordering·gt}
 use lib.ListN.{length, getD}
 use Rattle.label.specs.declared.First.{First}
 
@@ -10,6 +10,13 @@ abbrev pub orderOf : First → Ordering
 orderOf First.Below = Ordering·lt
 orderOf First.Same = Ordering·eq
 orderOf First.Above = Ordering·gt
+
+-- the four and the eight bytes at i as one number, the first the lowest
+abbrev pub fourAt : List ℕ → ℕ → ℕ
+fourAt b i = getD b i 0 + 256 * (getD b (i + 1) 0 + 256 * (getD b (i + 2) 0 + 256 * getD b (i + 3) 0))
+
+abbrev pub eightAt : List ℕ → ℕ → ℕ
+eightAt b i = fourAt b i + 4294967296 * fourAt b (i + 4)
 
 -- vs is ws with the places from .. to also standing k places higher; what is not written over stays.
 pub record MovedUp (ws vs : List ℕ) (from to k : ℕ) : Type 0 where
