@@ -1,6 +1,6 @@
 -- `walk::Walk::step` meets its contract: each answer by the tests that led to it, which are searched for among the places
 -- before. Assumes nothing.
-use mathlib.Core.Path.{sym, _∙_}
+use mathlib.Core.Path.{refl, sym, _∙_}
 use lib.ListN.{length-map}
 use lib.Seq.{length-take-le}
 use borrow.Author.Tests.{not-true, not-false}
@@ -75,7 +75,12 @@ copy-requires : tie.Need-copy-requires
 copy-requires c κs = length-take-le _ _ (c .before .before .if4 .left) ∙ sym (length-take-le _ _ (search key-inside))
 
 returns-6 : tie.Need-returns-6
-returns-6 c = search (asked, step-given)
+returns-6 c =
+    let copied = c .before .before .before in
+    let fits = copied .before .before .before in
+    let key = fits .before .before in
+    let sought = key .before .before .before in
+    step-given (asked (search)) _ (sought .seek .ensures) (key .found .given .1) (fits .if4 .left) (copied .copy .ensures) refl (c .handed-on .ensures)
 
 pub step-spec : {M : Type 1} → statement M
 step-spec =
