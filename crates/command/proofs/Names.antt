@@ -30,8 +30,8 @@ pub nameless : {s : List ℕ} → none ≡ some s → ⊥
 nameless e = let z : _≡_ {A = ℕ} 0 1 = cc in omega arith
 
 -- A line without a space is no command.
-pub lone : (s : List ℕ) (n : ℕ) (r : Command) → FirstWord s n → n ≡ length s → r .verb ≡ Verb.Unknown → r .end ≡ 0 → CommandOf s r
-lone s n r w e unknown start = record { lone = λ h. unknown; front = λ h. absurd (omega (arith, w .first)); within = omega arith }
+pub no-front : (s : List ℕ) (n : ℕ) (r : Command) → FirstWord s n → n ≡ length s → r .verb ≡ Verb.Unknown → r .end ≡ 0 → CommandOf s r
+no-front s n r w e unknown start = record { lone = λ h. unknown; front = λ h. absurd (omega (arith, w .first)); within = omega arith }
 
 -- What the code cuts off behind a place is all that stands there, and nothing where the place is over the length.
 pub part-behind : (s : List ℕ) (n : ℕ) → take (length s - n) (drop n s) ≡ drop n s

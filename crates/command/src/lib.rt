@@ -57,6 +57,7 @@ pub enum Heard {
     Asks(Command, Words),
 }
 
+// A name for each verb; a word that is none of them is unknown.
 fn verb_named(s: &[u8]) -> Verb
     ensures { λ r. ⌜ VerbOf r (now (s .entry)) ⌝ }
 {
@@ -102,6 +103,7 @@ fn verb_named(s: &[u8]) -> Verb
     Verb::Unknown
 }
 
+// The same of the pools.
 fn pool_named(s: &[u8]) -> Named
     ensures { λ r. ⌜ NamedOf r (now (s .entry)) ⌝ }
 {
@@ -143,7 +145,7 @@ fn command_in(s: &[u8]) -> Command
 }
 
 // The first n bytes of a run, or all of it.
-pub fn front(bytes: &[u8], n: usize) -> &[u8]
+pub fn first_bytes(bytes: &[u8], n: usize) -> &[u8]
     ensures { λ r. ⌜ now r ≡ take n (now (bytes .entry)) ⌝ }
 {
     if n < bytes.len() {
@@ -153,7 +155,7 @@ pub fn front(bytes: &[u8], n: usize) -> &[u8]
 }
 
 // What stands behind the first n bytes.
-pub fn behind(bytes: &[u8], n: usize) -> &[u8]
+pub fn bytes_behind(bytes: &[u8], n: usize) -> &[u8]
     ensures { λ r. ⌜ now r ≡ drop n (now (bytes .entry)) ⌝ }
 {
     if n < bytes.len() {
@@ -163,7 +165,7 @@ pub fn behind(bytes: &[u8], n: usize) -> &[u8]
 }
 
 // The first n numbers of a run, or all of it.
-pub fn first(numbers: &[u32], n: usize) -> &[u32]
+pub fn first_numbers(numbers: &[u32], n: usize) -> &[u32]
     ensures { λ r. ⌜ now r ≡ take n (now (numbers .entry)) ⌝ }
 {
     if n < numbers.len() {

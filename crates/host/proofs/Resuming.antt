@@ -13,7 +13,7 @@ use Rattle.tree.specs.Told.{steppedTold}
 use Rattle.tree.specs.Calls.{fits, lastFits, stepCall}
 use Rattle.walk.specs.declared.Walk.{Walk}
 use Rattle.walk.specs.declared.Step.{Step}
-use Rattle.walk.specs.Walks.{prefixOf, lastOf, Begins, GoesOn, Leaves, stepOf, Steps}
+use Rattle.walk.specs.Walks.{prefixOf, lastOf, Begins, HandedIn, Leaves, stepOf, Steps}
 use Rattle.host.specs.Host.{lastGiven, Returns, keyWritten, NextGiven}
 use Rattle.host.specs.Resumed.{Resumes}
 use Rattle.host.proofs.Handed.{returned}
@@ -48,7 +48,7 @@ resumes-fresh {p} {w} begun l b e =
     })
 
 -- Behind a last key the walk goes on.
-pub resumes-given : {p : Key} {w u : Walk} (begun : ℕ) (l : Key) → Begins p w → GoesOn l w u → (begun ≡ 0 → ⊥) → Resumes p (lastGiven begun l) u
+pub resumes-given : {p : Key} {w u : Walk} (begun : ℕ) (l : Key) → Begins p w → HandedIn l w u → (begun ≡ 0 → ⊥) → Resumes p (lastGiven begun l) u
 unfolding lastFits
 resumes-given {p} {w} {u} begun l b g e =
     rw (given-some begun l e)

@@ -10,6 +10,6 @@ pub record Keeps (line : List ℕ) (n : ℕ) (more : List ℕ) (r : ℕ) (line�
   pub over : length line < n + length more → (r ≡ length line + 1) × (line′ ≡ line)
 
 -- The bytes of a chunk from `at` to `got` are still to be taken; a chunk has 4,096.
-pub record Ready (at got : ℕ) : Type 0 where
+pub record Unread (at got : ℕ) : Type 0 where
   pub order : at ≤ got
   pub room : got ≤ 4096

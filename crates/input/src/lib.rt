@@ -1,5 +1,5 @@
 // Standard input, line by line.
-ghost use Rattle.input.specs.Lines.{Keeps, Ready};
+ghost use Rattle.input.specs.Lines.{Keeps, Unread};
 use libc::STDIN_FILENO;
 
 // A line: so many bytes of it have come, one more than its room has where it is too long. The next one begins at `at` in the
@@ -13,7 +13,7 @@ pub struct Next {
 
 // Before the first line nothing is read.
 pub fn start() -> Next
-    ensures { λ r. ⌜ Ready (r .at) (r .got) ⌝ }
+    ensures { λ r. ⌜ Unread (r .at) (r .got) ⌝ }
 {
     Next {
         len: 0,
@@ -24,7 +24,7 @@ pub fn start() -> Next
 }
 
 fn ended(len: usize) -> Next
-    ensures { λ r. ⌜ Ready (r .at) (r .got) ⌝ }
+    ensures { λ r. ⌜ Unread (r .at) (r .got) ⌝ }
 {
     Next {
         len,
@@ -52,8 +52,8 @@ fn keep(line: &mut [u8], n: usize, more: &[u8]) -> usize
 // The next line. Reads on where the chunk ends before it. A loop has to end, and nothing says that a line does: the turns are
 // counted down from a number that no run uses up.
 pub fn next_line(next: Next, line: &mut [u8; 131072], chunk: &mut [u8; 4096]) -> Next
-    requires { ⌜ Ready (next .at) (next .got) ⌝ }
-    ensures { λ r. ⌜ Ready (r .at) (r .got) ⌝ }
+    requires { ⌜ Unread (next .at) (next .got) ⌝ }
+    ensures { λ r. ⌜ Unread (r .at) (r .got) ⌝ }
 {
     let mut len: usize = 0;
     let mut at = next.at;

@@ -53,9 +53,9 @@ fn step(labels: &[u8], words: &[u32], walk: Walk, room: usize) {
 // The walk that is handed in.
 fn handed_in(said: Words, bytes: &[u8]) -> Walk {
     let k = said.key;
-    let fresh = Walk::new(command::front(bytes, k));
+    let fresh = Walk::new(command::first_bytes(bytes, k));
     if said.begun {
-        return fresh.after(command::front(command::behind(bytes, k), said.last));
+        return fresh.after(command::first_bytes(command::bytes_behind(bytes, k), said.last));
     }
     fresh
 }
@@ -82,7 +82,7 @@ fn run(
     bytes: &[u8],
     numbers: &[u32],
 ) {
-    let key = command::front(bytes, said.key);
+    let key = command::first_bytes(bytes, said.key);
     match verb {
         Verb::Make => tell::emptied(pool::make(labels, words)),
         Verb::Clear => tell::emptied(pool::clear(labels, words)),
@@ -92,7 +92,7 @@ fn run(
         }
         Verb::Remove => tell::got(remove::remove(labels, words, key)),
         Verb::Read => {
-            let listed = command::first(numbers, said.count);
+            let listed = command::first_numbers(numbers, said.count);
             tell::loaded(reader::read(labels, words, key, listed));
         }
         Verb::Step => step(labels, words, handed_in(said, bytes), said.count),
@@ -131,7 +131,7 @@ fn respond(
     let verb = order.verb;
     let pool = order.pool;
     if let Verb::Split = verb {
-        let prefix = command::front(bytes, said.key);
+        let prefix = command::first_bytes(bytes, said.key);
         match pool {
             Named::First => divide(labels, words, prefix, labels2, words2),
             Named::Second => divide(labels2, words2, prefix, labels, words),

@@ -15,7 +15,7 @@ use Rattle.tree.specs.Calls.{fits, lastFits, stepCall}
 use Rattle.tree.proofs.OneAnswer.{stepped-one}
 use Rattle.walk.specs.declared.Walk.{Walk}
 use Rattle.walk.specs.declared.Step.{Step}
-use Rattle.walk.specs.Walks.{prefixOf, lastOf, Begins, GoesOn, Leaves, stepOf, Steps}
+use Rattle.walk.specs.Walks.{prefixOf, lastOf, Begins, HandedIn, Leaves, stepOf, Steps}
 use Rattle.walk.proofs.Answers.{fits-long, call-prefix, call-last}
 
 -- Two walks that go on alike
@@ -30,8 +30,8 @@ begins-decided h a b = record { prefix = a .prefix h ∙ sym (b .prefix h); last
 pub begins-long : {t : Tree} {p : Key} {w : Walk} {r : Step} {out out′ : List ℕ} → 4096 < length p → Begins p w → Steps (some t) w r out out′ → steppedTold (r .answer) ≡ refusal 2
 begins-long {t} {p} {w} {r} {out} h b s = s .said ∙ sym (call-prefix t (prefixOf w) (lastOf w) (length out) (fits-long (prefixOf w) (omega (arith, b .len))))
 
-pub goes-on-decided : {l : Key} {w u v : Walk} → length l ≤ keyMax → GoesOn l w u → GoesOn l w v → Alike u v
-goes-on-decided h a b =
+pub handed-in-decided : {l : Key} {w u v : Walk} → length l ≤ keyMax → HandedIn l w u → HandedIn l w v → Alike u v
+handed-in-decided h a b =
     record { prefix = a .prefix ∙ sym (b .prefix); last = a .last ∙ ap some (a .kept h) ∙ sym (b .last ∙ ap some (b .kept h)) }
 
 -- So does a walk behind a last key that is too long.
@@ -39,10 +39,10 @@ long-last : (t : Tree) (p : Key) (l : Option Key) (room : ℕ) (b : Bool) → fi
 long-last t p l room false e f = call-prefix t p l room e
 long-last t p l room true e f = call-last t p l room e f
 
-pub goes-on-long : {t : Tree} {l : Key} {w u : Walk} {r : Step} {out out′ : List ℕ} → 4096 < length l → GoesOn l w u → Steps (some t) u r out out′
+pub handed-in-long : {t : Tree} {l : Key} {w u : Walk} {r : Step} {out out′ : List ℕ} → 4096 < length l → HandedIn l w u → Steps (some t) u r out out′
     → steppedTold (r .answer) ≡ refusal 2
 unfolding lastFits
-goes-on-long {t} {l} {w} {u} {r} {out} h g s =
+handed-in-long {t} {l} {w} {u} {r} {out} h g s =
     let f : lastFits (lastOf u) ≡ false = ap lastFits (g .last) ∙ fits-long (g .given) (omega (arith, g .len)) in
     s .said ∙ sym (long-last t (prefixOf u) (lastOf u) (length out) (fits (prefixOf u)) refl f)
 

@@ -40,7 +40,7 @@ pub record Begins (p : Key) (w : Walk) : Type 0 where
 
 -- A walk that goes on behind a key: the same prefix, and that key is the last one given. A key over 4,096 bytes is not kept, but
 -- its length is.
-pub record GoesOn (l : Key) (w w′ : Walk) : Type 0 where
+pub record HandedIn (l : Key) (w w′ : Walk) : Type 0 where
   pub prefix : prefixOf w′ ≡ prefixOf w
   pub given : Key
   pub last : lastOf w′ ≡ some given

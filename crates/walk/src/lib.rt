@@ -11,7 +11,7 @@ ghost use Rattle.pool.specs.Layout.{hasOf};
 ghost use Rattle.pool.specs.Lent.{before};
 ghost use Rattle.pool.specs.Rule.{PoolRule};
 ghost use Rattle.walk.specs.Due.{lastIf, due, GivesKey, LayRoom, Laid, Sought};
-ghost use Rattle.walk.specs.Walks.{handedOn, Begins, GoesOn, StepAllows};
+ghost use Rattle.walk.specs.Walks.{handedOn, Begins, HandedIn, StepAllows};
 use tree::RuleNo;
 use tree::Slot;
 use tree::Stepped;
@@ -171,7 +171,7 @@ impl Walk {
     // The walk with a last key that is handed in. One over 4,096 bytes is not kept, only its length: every step then gives 2. A
     // walk under the last key holds that key's bytes, and is taken apart for them.
     pub fn after(self, last: &[u8]) -> Walk
-        ensures { λ r. ⌜ GoesOn (now (last .entry)) self r ⌝ }
+        ensures { λ r. ⌜ HandedIn (now (last .entry)) self r ⌝ }
     {
         let given = Walk::new(last);
         let prefix = self.prefix;

@@ -1,11 +1,11 @@
 -- `input::next_line` meets its contract: what is still to be taken of the chunk lies within it. Assumes nothing.
 use native.Mathlib.Omega.{arith}
-use Rattle.input.specs.Lines.{Ready}
+use Rattle.input.specs.Lines.{Unread}
 use Rattle.input.proofs.next_line.Statement.{statement}
 use Rattle.input.proofs.next_line.Tie as tie
 
 abbrev Inv-loop : tie.InvT-loop
-Inv-loop line₀ chunk₀ len₀ at₀ got₀ turns₀ line chunk len at got turns = Ready at got
+Inv-loop line₀ chunk₀ len₀ at₀ got₀ turns₀ line chunk len at got turns = Unread at got
 
 abbrev μ-loop : tie.MeasureT-loop
 μ-loop line₀ chunk₀ len₀ at₀ got₀ turns₀ line chunk len at got turns = turns

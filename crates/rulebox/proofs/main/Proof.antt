@@ -1,12 +1,12 @@
 -- `rulebox::main` is safe and ends. Assumes nothing.
 use native.Mathlib.Omega.{arith}
-use Rattle.input.specs.Lines.{Ready}
+use Rattle.input.specs.Lines.{Unread}
 use Rattle.rulebox.proofs.main.Statement.{statement}
 use Rattle.rulebox.proofs.main.Tie as tie
 
 abbrev Inv-loop : tie.InvT-loop
 Inv-loop labels₀ words₀ labels2₀ words2₀ line₀ chunk₀ bytes₀ numbers₀ next₀ turns₀ labels words labels2 words2 line chunk bytes numbers next turns =
-    Ready (next .at) (next .got)
+    Unread (next .at) (next .got)
 
 abbrev μ-loop : tie.MeasureT-loop
 μ-loop labels₀ words₀ labels2₀ words2₀ line₀ chunk₀ bytes₀ numbers₀ next₀ turns₀ labels words labels2 words2 line chunk bytes numbers next turns =
