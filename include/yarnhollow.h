@@ -83,12 +83,12 @@
  *
  * STACK
  *
- * Read and write call themselves, level by level, and a key's bytes can stand on up to 4,096 levels. Measured at 4,096 levels:
- * read took 1,114,400 bytes of stack, write 721,200. What read takes goes by the image and not by the size of the pool, which
- * counts last: a read that was refused for a pool of one slot had taken 852,300. Call read with 2 MiB of stack left and write
- * with 1 MiB; the usual 8 MiB of a thread are enough for both. A thread with less must not read an image from outside: no call
- * tests the stack. `yarnhollow_next` took 20,800 bytes, insert of a key of 4,096 bytes 2,200, every other call at most 400.
- * What the loader may take at the first call of memcpy and memset is not counted.
+ * Read calls itself, level by level, and a key's bytes can stand on up to 4,096 levels. Measured at 4,096 levels: read took
+ * 1,114,400 bytes of stack. What it takes goes by the image and not by the size of the pool, which counts last: a read that was
+ * refused for a pool of one slot had taken 852,300. Call read with 2 MiB of stack left; the usual 8 MiB of a thread are enough.
+ * A thread with less must not read an image from outside: no call tests the stack. `yarnhollow_next` took 20,800 bytes, write
+ * 8,500, insert of a key of 4,096 bytes 2,300, every other call at most 500. What the loader may take at the first call of
+ * memcpy and memset is not counted.
  */
 #ifndef YARNHOLLOW_H
 #define YARNHOLLOW_H
@@ -222,7 +222,7 @@ uint32_t yarnhollow_counts(const uint8_t *labels, size_t labels_len, const uint3
 /*
  * Writes the image: tree bytes to the front of `tree`, numbers to the front of `numbers`; the rest of each stays. With 0 the
  * lengths say how much was written, with 5 how much room is needed, and then neither output has changed.
- * Returns 0, 1 or 5. Needs 1 MiB of stack.
+ * Returns 0, 1 or 5. Needs 16 KiB of stack.
  */
 uint32_t yarnhollow_write(const uint8_t *labels, size_t labels_len, const uint32_t *words, size_t words_len,
                           uint8_t *tree, size_t tree_len, uint32_t *numbers, size_t numbers_len,
