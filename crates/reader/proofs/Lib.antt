@@ -1,7 +1,7 @@
 pub mod Tests
 pub mod Walk
 pub mod Verdicts
-pub mod Lying
+pub mod Items
 pub mod Fills
 pub mod Whole
 pub mod Answers

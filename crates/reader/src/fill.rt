@@ -1,8 +1,8 @@
-// The fill: an image that has passed the check is believed. Its records are read in their order, and a node's slot is written
-// when its span is known, after those below it.
+// The fill: an image that has passed the check is believed. Its records stand in the order of the slots, so that one loop
+// goes over them, and each finds the length of its path in a table by its level. The spans are put right at the end.
 ghost use mathlib.Core.Path.{_≡_};
 ghost use mathlib.Core.List.{[]};
-ghost use Prim.Native.Nat.{_+_, _≤_};
+ghost use Prim.Native.Nat.{_+_, _*_, _≤_, _<_};
 ghost use lib.ListN.{length, getD};
 ghost use Rattle.tree.specs.Told.{done};
 ghost use Rattle.tree.specs.Calls.{readCall};
@@ -10,14 +10,13 @@ ghost use Rattle.pool.specs.Layout.{numOf};
 ghost use Rattle.pool.specs.Pool.{slotsOf};
 ghost use Rattle.pool.specs.Put.{SlotPut};
 ghost use Rattle.pool.specs.Post.{Meets};
-ghost use Rattle.reader.specs.Fill.{SlotDue, recRead, RecordDue, Behind, NodeDue, front, NodeFilled, KidsDue, KidsFilled, FillDue};
+ghost use Rattle.reader.specs.Fill.{SlotDue, recRead, RecordDue, Behind, RecordsDue, Recorded, FillDue};
 use super::wide;
-use flags::has_child;
 use flags::has_number;
-use flags::has_sibling;
 use pool::put::Head;
-use pool::put::put_nodes;
 use pool::put::put_slot;
+use pool::splice::settle;
+use tree::Level;
 use tree::RuleNo;
 use tree::Slot;
 
@@ -39,8 +38,8 @@ fn number_due(numbers: &[u32], next: usize, has: usize) -> RuleNo
     RuleNo(numbers[next])
 }
 
-// Writes the record at the cursor into its slot, with so many nodes in its span. Counterpart: `Node::new_for_decoding`, the
-// copy into `label_mut` and `set_value`.
+// Writes the record at the cursor into its slot, under a path of so many bytes. How many nodes are below it is not known
+// yet: the span counts the node alone. Counterpart: `Node::new_for_decoding`, the copy into `label_mut` and `set_value`.
 fn fill_slot(
     labels: &mut [u8],
     words: &mut [u32],
@@ -48,10 +47,11 @@ fn fill_slot(
     numbers: &[u32],
     path: usize,
     from: Cursor,
-    span: usize,
 )
-    requires { ⌜ SlotDue (now tree) (now numbers) (now words) (now labels) path from span ⌝ }
-    ensures { λ _. ⌜ SlotPut (now (words .entry)) (now (labels .entry)) (now (words .exit)) (now (labels .exit)) (from .slot .0) (recRead (now (tree .entry)) (now (numbers .entry)) path from span) ⌝ }
+    requires { ⌜ SlotDue (now tree) (now numbers) (now words) (now labels) path from ⌝ }
+    ensures { λ _. do
+      let r = recRead (now (tree .entry)) (now (numbers .entry)) path from
+      ⌜ SlotPut (now (words .entry)) (now (labels .entry)) (now (words .exit)) (now (labels .exit)) (from .slot .0) r ⌝ }
 {
     let at = from.at;
     let len = wide(tree[at + 1]);
@@ -62,7 +62,7 @@ fn fill_slot(
         len: len as u32,
         has: has as u32,
         number: number,
-        span: span as u32,
+        span: 1,
     };
     let first = at + 4;
     let last = first + len;
@@ -70,7 +70,7 @@ fn fill_slot(
     put_slot(labels, words, slot, head, &tree[first..last]);
 }
 
-// The cursor behind a record: its first child's, where it has any, else that of the next record.
+// The cursor behind a record.
 fn behind(tree: &[u8], from: Cursor) -> Cursor
     requires { ⌜ RecordDue (now tree) from ⌝ }
     ensures { λ r. ⌜ Behind (now (tree .entry)) from r ⌝ }
@@ -83,87 +83,60 @@ fn behind(tree: &[u8], from: Cursor) -> Cursor
     }
 }
 
-// A node with all below it: its children, where it has any, and then its own slot, whose span is known by now. Counterpart:
-// `set_child`.
-fn fill_node(
-    labels: &mut [u8],
-    words: &mut [u32],
-    tree: &[u8],
-    numbers: &[u32],
-    path: usize,
-    from: Cursor,
-) -> Cursor
-    requires { ⌜ NodeDue (now tree) (now numbers) (now words) (now labels) path from ⌝ }
-    ensures { λ r. ⌜ NodeFilled (now (tree .entry)) (now (numbers .entry)) (now (words .entry)) (now (labels .entry)) (now (words .exit)) (now (labels .exit)) path from r ⌝ }
+// The level that a record says.
+fn level_at(tree: &[u8], at: usize) -> Level
+    requires { ⌜ at + 4 ≤ length (now tree) ⌝ }
+    ensures { λ r. do
+      let s = now (tree .entry)
+      ⌜ (r .0 ≡ 256 * getD s (at + 2) 0 + getD s (at + 3) 0) × (r .0 < 65536) ⌝ }
 {
-    let at = from.at;
-    let mut end = behind(tree, from);
-    if has_child(tree[at]) > 0 {
-        let under = path + wide(tree[at + 1]);
-        let last = fill_kids(labels, words, tree, numbers, under, end);
-        // Field by field, as in the check.
-        end = Cursor {
-            at: last.at,
-            slot: Slot(last.slot.0),
-            next: last.next,
-        };
-    }
-    let span = end.slot.0 - from.slot.0;
-    fill_slot(labels, words, tree, numbers, path, from, span);
-    end
+    Level(256 * wide(tree[at + 2]) + wide(tree[at + 3]))
 }
 
-// A list of siblings, one after another. Counterpart: `set_sibling`.
-fn fill_kids(
-    labels: &mut [u8],
-    words: &mut [u32],
-    tree: &[u8],
-    numbers: &[u32],
-    path: usize,
-    from: Cursor,
-) -> Cursor
-    requires { ⌜ KidsDue (now tree) (now numbers) (now words) (now labels) path from ⌝ }
-    ensures { λ r. ⌜ KidsFilled (now (tree .entry)) (now (numbers .entry)) (now (words .entry)) (now (labels .entry)) (now (words .exit)) (now (labels .exit)) path from r ⌝ }
+// The length of a path as the table keeps it.
+fn path_of(x: u16) -> usize
+    ensures { λ r. ⌜ (r ≡ x) × (r < 65536) ⌝ }
 {
-    let mut c = from;
-    loop {
-        let at = c.at;
-        let end = fill_node(labels, words, tree, numbers, path, c);
-        let next = Cursor {
-            at: end.at,
-            slot: Slot(end.slot.0),
-            next: end.next,
-        };
-        if has_sibling(tree[at]) == 0 {
-            return next;
-        }
-        c = next;
-    }
+    x as usize
 }
 
-// The root with all below it.
-fn fill_root(labels: &mut [u8], words: &mut [u32], tree: &[u8], numbers: &[u32]) -> Cursor
-    requires { ⌜ NodeDue (now tree) (now numbers) (now words) (now labels) 0 front × (getD (now tree) 1 0 ≡ 0) ⌝ }
-    ensures { λ r. ⌜ NodeFilled (now (tree .entry)) (now (numbers .entry)) (now (words .entry)) (now (labels .entry)) (now (words .exit)) (now (labels .exit)) 0 front r ⌝ }
+// Writes every record into its slot, but for the spans, and gives their count. A node's children start where its label
+// ends: it leaves that in the table at their level, where they find it. Nothing writes there before the next node of its
+// own level, and by then they have been passed. Counterpart: `set_child` and `set_sibling`.
+fn fill_records(labels: &mut [u8], words: &mut [u32], tree: &[u8], numbers: &[u32]) -> usize
+    requires { ⌜ RecordsDue (now tree) (now numbers) (now words) (now labels) ⌝ }
+    ensures { λ r. do
+      let s = now (tree .entry)
+      let ns = now (numbers .entry)
+      ⌜ Recorded s ns (now (words .entry)) (now (labels .entry)) (now (words .exit)) (now (labels .exit)) r ⌝ }
 {
-    let start = Cursor {
+    let mut starts = [0u16; 4098];
+    let mut c = Cursor {
         at: 0,
         slot: Slot(0),
         next: 0,
     };
-    let mut end = behind(tree, start);
-    if has_child(tree[0]) > 0 {
-        end = fill_kids(labels, words, tree, numbers, 0, end);
+    while c.at < tree.len() {
+        let at = c.at;
+        let level = level_at(tree, at).0;
+        let start = path_of(starts[level]);
+        let end = start + wide(tree[at + 1]);
+        starts[level + 1] = end as u16;
+        fill_slot(labels, words, tree, numbers, start, c);
+        c = behind(tree, c);
     }
-    fill_slot(labels, words, tree, numbers, 0, start, end.slot.0);
-    end
+    c.slot.0
 }
 
-// The whole tree, and the count of its nodes.
+// The whole tree: its records, and then their count and their spans.
 pub fn fill_tree(labels: &mut [u8], words: &mut [u32], tree: &[u8], numbers: &[u32])
     requires { ⌜ FillDue (now tree) (now numbers) (now words) (now labels) ⌝ }
-    ensures { λ _. ⌜ Meets (readCall (slotsOf (now (words .entry)) (now (labels .entry))) (now (tree .entry)) (now (numbers .entry))) (done []) (now (words .entry)) (now (labels .entry)) (now (words .exit)) (now (labels .exit)) ⌝ }
+    ensures { λ _. do
+      let ws = now (words .entry)
+      let bs = now (labels .entry)
+      let call = readCall (slotsOf ws bs) (now (tree .entry)) (now (numbers .entry))
+      ⌜ Meets call (done []) ws bs (now (words .exit)) (now (labels .exit)) ⌝ }
 {
-    let end = fill_root(labels, words, tree, numbers);
-    put_nodes(words, end.slot.0 as u32);
+    let n = fill_records(labels, words, tree, numbers);
+    settle(words, n);
 }

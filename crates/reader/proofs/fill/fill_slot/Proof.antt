@@ -13,7 +13,7 @@ returns c =
     let a = c .before .before .before .before .before .before .before .before .before .before .before .before .before .before .before .before .before .before .args in
     let len = c .before .before .before .before .before .before .before .before .before .before .before .before .wide .result in
     let n : a .from .at + 4 + len - (a .from .at + 4) ≡ len = omega arith in
-    slot-read (a .tree .now) (a .numbers .now) _ _ _ _ (a .path) (a .from) (a .span) _ _ _ _ (c .before .before .before .before .before .before .before .before .before .before .before .before .wide .ensures .0) (c .before .before .before .before .before .before .before .before .before .before .has-number .ensures .0) (c .before .before .before .before .before .before .before .before .before .number-due .ensures)
+    slot-read (a .tree .now) (a .numbers .now) _ _ _ _ (a .path) (a .from) _ _ _ _ (c .before .before .before .before .before .before .before .before .before .before .before .before .wide .ensures .0) (c .before .before .before .before .before .before .before .before .before .before .has-number .ensures .0) (c .before .before .before .before .before .before .before .before .before .number-due .ensures)
     (ap (λ (n : ℕ). take n (drop (a .from .at + 4) (a .tree .now))) n)
     (c .before .before .before .before .put-slot .ensures)
 
@@ -27,7 +27,6 @@ fill-slot-spec =
     (λ c. search needs)
     (λ c κs. search needs)
     (λ c κs. search needs)
-    (λ c. search needs)
     (λ c. search needs)
     (λ c. search needs)
     (λ c. search needs)
