@@ -83,10 +83,10 @@
  *
  * STACK
  *
- * Read calls itself, level by level, and a key's bytes can stand on up to 4,096 levels. Measured at 4,096 levels: read took
- * 1,114,400 bytes of stack. What it takes goes by the image and not by the size of the pool, which counts last: a read that was
- * refused for a pool of one slot had taken 852,300. Call read with 2 MiB of stack left; the usual 8 MiB of a thread are enough.
- * A thread with less must not read an image from outside: no call tests the stack. `yarnhollow_next` took 20,800 bytes, write
+ * Read's check calls itself, level by level, and a key's bytes can stand on up to 4,096 levels. Measured at 4,096 levels: read
+ * took 860,400 bytes of stack. What it takes goes by the image and not by the size of the pool, which counts last: a read that
+ * was refused for a pool of one slot had taken as much. Call read with 1 MiB of stack left; the usual 8 MiB of a thread are
+ * enough. A thread with less must not read an image from outside: no call tests the stack. `yarnhollow_next` took 20,800 bytes, write
  * 8,500, insert of a key of 4,096 bytes 2,300, every other call at most 500. What the loader may take at the first call of
  * memcpy and memset is not counted.
  */
@@ -231,7 +231,7 @@ uint32_t yarnhollow_write(const uint8_t *labels, size_t labels_len, const uint32
 /*
  * Reads an image into a pool, whose old contents are given up: of it only the lengths are tested. The image is checked in
  * full before anything is written. `offset` is stored with 6 to 13 only, not with 0.
- * Returns 0, 1 for wrong lengths, 2, 4 or 6 to 13. Needs 2 MiB of stack, however small the pool.
+ * Returns 0, 1 for wrong lengths, 2, 4 or 6 to 13. Needs 1 MiB of stack, however small the pool.
  */
 uint32_t yarnhollow_read(uint8_t *labels, size_t labels_len, uint32_t *words, size_t words_len,
                          const uint8_t *tree, size_t tree_len, const uint32_t *numbers, size_t numbers_len,
