@@ -29,8 +29,8 @@
  * with 1 and does no harm. Of a pool that is only filled (make, read, the second pool of split) the lengths are tested and
  * nothing else.
  *
- * That test is most of what a call costs: it looks at every node of the tree, 3 to 7 ns each where it was measured, so that a
- * lookup takes half a microsecond among 100 nodes and about 100 microseconds among 16,000. Insert, remove and split cost two
+ * That test is most of what a call costs: it looks at every node of the tree, 3 to 10 ns each where it was measured, so that a
+ * lookup takes up to a microsecond among 100 nodes and 70 to 150 microseconds among 16,000. Insert, remove and split cost two
  * to three tests, since they move the nodes behind the place.
  *
  *
@@ -86,9 +86,9 @@
  * Read's check calls itself, level by level, and a key's bytes can stand on up to 4,096 levels. Measured at 4,096 levels: read
  * took 860,400 bytes of stack. What it takes goes by the image and not by the size of the pool, which counts last: a read that
  * was refused for a pool of one slot had taken as much. Call read with 1 MiB of stack left; the usual 8 MiB of a thread are
- * enough. A thread with less must not read an image from outside: no call tests the stack. `yarnhollow_next` took 20,800 bytes, write
- * 8,500, insert of a key of 4,096 bytes 2,300, every other call at most 500. What the loader may take at the first call of
- * memcpy and memset is not counted.
+ * enough. A thread with less must not read an image from outside: no call tests the stack. `yarnhollow_next` took 20,800
+ * bytes, write 8,500, insert of a key of 4,096 bytes 2,300, every other call at most 500. What the loader may take at the
+ * first call of memcpy and memset is not counted.
  */
 #ifndef YARNHOLLOW_H
 #define YARNHOLLOW_H
