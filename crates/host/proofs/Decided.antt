@@ -24,22 +24,22 @@ pub returns-decided : {told : Told} {r s : ℕ} {rs xs ys : List ℕ} → Return
 returns-decided p q = record { number = p .number ∙ sym (q .number); values = p .values ∙ sym (q .values) }
 
 -- A changing call: the tree left behind too, and with any number but 0 every lent word and byte
-pub record SameLeft (r s : ℕ) (xs ys : List ℕ) (is is′ : Lent) : Type 0 where
+pub record SameChange (r s : ℕ) (xs ys : List ℕ) (is is′ : Lent) : Type 0 where
   pub returned : Same r s xs ys
   pub tree : treeIn is ≡ treeIn is′
   pub kept : ¬ (r ≡ 0) → is ≡ is′
 
 left-decided : (o : Outcome) (was is is′ : Lent) {r s : ℕ} {xs ys : List ℕ} → Same r s xs ys → r ≡ outcomeTold o .number → Does o (outcomeTold o) was is → Does o (outcomeTold o) was is′
-    → SameLeft r s xs ys is is′
+    → SameChange r s xs ys is is′
 left-decided o was is is′ e f p q =
     let d = outcome-decides was is is′ (outcomeTold o) (outcomeTold o) o p q in
     record { returned = e; tree = d .tree; kept = λ n. d .kept (λ z. n (f ∙ z)) }
 
 module _ {was is is′ : Lent} {o : Outcome} {r s : ℕ} {rs xs ys : List ℕ} where
-  pub changes-decided : Changes o r rs xs was is → Changes o s rs ys was is′ → SameLeft r s xs ys is is′
+  pub changes-decided : Changes o r rs xs was is → Changes o s rs ys was is′ → SameChange r s xs ys is is′
   changes-decided p q = left-decided o was is is′ (returns-decided (p .returns) (q .returns)) (p .returns .number) (p .left) (q .left)
 
-  pub inserts-decided : Inserts o r rs xs was is → Inserts o s rs ys was is′ → SameLeft r s xs ys is is′
+  pub inserts-decided : Inserts o r rs xs was is → Inserts o s rs ys was is′ → SameChange r s xs ys is is′
   inserts-decided p q = left-decided o was is is′ (returns-decided (p .returns) (q .returns)) (p .returns .number) (p .left) (q .left)
 
 -- Split: the number, and both trees; with any number but 0 every word and byte of both pools

@@ -22,7 +22,7 @@ use Rattle.order.specs.Built.{Built, fresh, inserted, erased, cleared, detached
 use Rattle.order.proofs.Trace.{no-trace-pairs, swap-inserts, swap-removes, swap-insert-remove}
 use Rattle.promises.specs.Pools as pools
 use Rattle.promises.specs.Pools.{Accepted, PoolBuilt, pairsFor, pairsIn}
-use Rattle.promises.specs.Changes.{Change, insert, remove, keyOf, InsertedBy, RemovedBy, Changes}
+use Rattle.promises.specs.Changes.{Change, insert, remove, keyOf, InsertedBy, RemovedBy, ChangedBy}
 use Rattle.promises.proofs.Calls.{insert-leaves, remove-leaves, split-leaves}
 use Rattle.promises.proofs.Writes.{WroteSame, wrote-same}
 
@@ -107,7 +107,7 @@ module _ {l : Lent} (p : PoolBuilt l) where
       let one = swap-insert-remove (start .built) k v q (f .short) ne in
       cc (f′ .held, f′ .left, g′ .held, g′ .removed, g′ .left, h′ .held, h′ .removed, h′ .left, i′ .held, i′ .left, start .held, one)
 
-  pub swap-trees : (x y : Change) (a b c d : Lent) → ¬ (keyOf x ≡ keyOf y) → Changes x l a → Changes y a b → Changes y l c → Changes x c d → treeIn b ≡ treeIn d
+  pub swap-trees : (x y : Change) (a b c d : Lent) → ¬ (keyOf x ≡ keyOf y) → ChangedBy x l a → ChangedBy y a b → ChangedBy y l c → ChangedBy x c d → treeIn b ≡ treeIn d
   unfolding bind
   swap-trees (insert k v) (insert q w) a b c d ne f g h i =
       let f′ = insert-leaves k v (insertedTold (f .answer)) l a (f .allowed) (f .accepted) in
@@ -127,7 +127,7 @@ module _ {l : Lent} (p : PoolBuilt l) where
       cc (f′ .held, f′ .removed, f′ .left, g′ .held, g′ .removed, g′ .left, h′ .held, h′ .removed, h′ .left, i′ .held, i′ .removed, i′ .left, start .held, one)
 
   -- So the two are written alike.
-  pub swap-calls : (x y : Change) (a b c d : Lent) → ¬ (keyOf x ≡ keyOf y) → Changes x l a → Changes y a b → Changes y l c → Changes x c d
+  pub swap-calls : (x y : Change) (a b c d : Lent) → ¬ (keyOf x ≡ keyOf y) → ChangedBy x l a → ChangedBy y a b → ChangedBy y l c → ChangedBy x c d
       → {tree numbers tree′ numbers′ tree₂ numbers₂ tree₂′ numbers₂′ : List ℕ} (r s : Written)
       → WriteAllows r b tree numbers tree′ numbers′ → WriteAllows s d tree₂ numbers₂ tree₂′ numbers₂′ → Accepted (writtenTold r) → Accepted (writtenTold s)
       → WroteSame r s tree numbers tree′ numbers′ tree₂ numbers₂ tree₂′ numbers₂′

@@ -31,6 +31,6 @@ pub record RemovedBy (key : Key) (was is : Lent) : Type 0 where
   pub accepted : Accepted (gotTold answer)
 
 -- The change is accepted, and leaves these slices.
-abbrev pub Changes : Change → (was is : Lent) → Type 0
-Changes (insert key number) was is = InsertedBy key number was is
-Changes (remove key) was is = RemovedBy key was is
+abbrev pub ChangedBy : Change → (was is : Lent) → Type 0
+ChangedBy (insert key number) was is = InsertedBy key number was is
+ChangedBy (remove key) was is = RemovedBy key was is

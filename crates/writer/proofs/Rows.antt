@@ -73,7 +73,7 @@ due-ends ws bs levels top c e none d = omega arith
 due-ends ws bs levels top c e (row n s f rs) d = omega (arith, due-ends ws bs levels s (c + nodesF f) e rs (d .1))
 
 -- The first row that is not empty, and its first node
-pub record Head (ws bs levels : List ℕ) (top c e : ℕ) (rs : Rows) : Type 0 where
+pub record FirstDue (ws bs levels : List ℕ) (top c e : ℕ) (rs : Rows) : Type 0 where
   pub level : ℕ
   pub path : ℕ
   pub b : ℕ
@@ -86,7 +86,7 @@ pub record Head (ws bs levels : List ℕ) (top c e : ℕ) (rs : Rows) : Type 0 w
   pub tail : Due ws bs levels path (c + suc (nodesF kids + nodesF rest)) e others
   pub image : imageRows rs ≡ imageF level (node b l w kids rest) ++ imageRows others
 
-head-lower : {ws bs levels : List ℕ} {s top c e : ℕ} {rs rs′ : Rows} → s < top → imageRows rs′ ≡ imageRows rs → Head ws bs levels s c e rs → Head ws bs levels top c e rs′
+head-lower : {ws bs levels : List ℕ} {s top c e : ℕ} {rs rs′ : Rows} → s < top → imageRows rs′ ≡ imageRows rs → FirstDue ws bs levels s c e rs → FirstDue ws bs levels top c e rs′
 head-lower lt q h =
     let a = h .first in
     record {
@@ -103,7 +103,7 @@ head-lower lt q h =
       image = q ∙ h .image;
     }
 
-pub head : (ws bs levels : List ℕ) (top c e : ℕ) (rs : Rows) → Due ws bs levels top c e rs → c < e → Head ws bs levels top c e rs
+pub head : (ws bs levels : List ℕ) (top c e : ℕ) (rs : Rows) → Due ws bs levels top c e rs → c < e → FirstDue ws bs levels top c e rs
 unfolding nodesF imageRows imageF
 head ws bs levels top c e none d h = absurd (omega arith)
 head ws bs levels top c e (row n s nil rs) d h =
@@ -112,7 +112,7 @@ head ws bs levels top c e (row n s (node b l w kids rest) rs) d h =
     record { level = n; path = s; b = b; l = l; w = w; kids = kids; rest = rest; first = d .0; others = rs; tail = d .1; image = refl }
 
 -- What stands at slot c
-module _ {ws bs levels : List ℕ} {top c e : ℕ} {rs : Rows} (h : Head ws bs levels top c e rs) where
+module _ {ws bs levels : List ℕ} {top c e : ℕ} {rs : Rows} (h : FirstDue ws bs levels top c e rs) where
   pub slot : SlotIs ws bs c (nodeRec (h .path) (h .b) (h .l) (h .w) (nodesF (h .kids)))
   slot = slot-is-rec ws bs c (nodeRec (h .path) (h .b) (h .l) (h .w) (nodesF (h .kids))) (h .first .stands .0)
 
@@ -216,7 +216,7 @@ module _ {ws bs levels : List ℕ} {c e : ℕ} {out₀ : List ℕ} {start : ℕ}
       put-as (sym (append-nil (a .passed)) ∙ ap (λ (x : List ℕ). a .passed ++ x) (sym z) ∙ sym (a .image)) (a .put)
 
   module _ (h : c < e) where
-    pub at : Head ws bs levels (a .top) c e (a .rows)
+    pub at : FirstDue ws bs levels (a .top) c e (a .rows)
     at = head ws bs levels (a .top) c e (a .rows) (a .due) h
 
     -- what the table says is the node's level

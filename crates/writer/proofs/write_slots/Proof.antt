@@ -7,7 +7,7 @@ use borrow.Author.Needs.{needs}
 use Rattle.tree.specs.Tree.{Forest}
 use Rattle.writer.specs.Runs.{Run}
 use Rattle.writer.proofs.Lists.{put-length}
-use Rattle.writer.proofs.Rows.{Flat, Head, flat-start, flat-done, flat-room, flat-step, at, level-is, slot, head-deep, head-level}
+use Rattle.writer.proofs.Rows.{Flat, flat-start, flat-done, flat-room, flat-step, at, level-is, slot, head-deep, head-level}
 use Rattle.writer.proofs.write_slots.Statement.{statement}
 use Rattle.writer.proofs.write_slots.Tie as tie
 
