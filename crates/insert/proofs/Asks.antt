@@ -7,10 +7,11 @@ use mir.Syntax.{w64}
 use mir.Val.{Fits}
 use lib.ListN.{length}
 use Rattle.tree.specs.Key.{Key, keyMax}
-use Rattle.pool.specs.Layout.{nodesOf, startOf, lenOf, spanOf}
+use Rattle.slots.specs.Layout.{wordsFor, WordsIn, RoomIn, nodesOf, startOf, lenOf, spanOf}
 use Rattle.pool.specs.Rule.{Within, PoolRule}
-use Rattle.pool.specs.Splice.{Bare, bareAt, Room, Moved, Filled}
-use Rattle.pool.specs.Spans.{Loose}
+use Rattle.slots.specs.Bare.{Bare, bareAt, Filled}
+use Rattle.splice.specs.Splice.{Room, Moved}
+use Rattle.splice.specs.Spans.{Loose}
 use Rattle.insert.specs.Splices.{leafNodes, Built, Grows, Opens, Cuts, Forks}
 
 -- The buffers are as long as they were.
@@ -50,13 +51,13 @@ module _ {ws bs : List ℕ} {n k : ℕ} (g : Grows ws bs n k) where
   counted = slot-fits (n + k) (omega arith)
 
   -- what is asked where only spans are left to grow
-  pub settles : {us : List ℕ} {at : ℕ} → Loose us (n + k) at k 0 → length us ≡ length ws → (6 * (n + k) + 8 ≤ length us) × (n + k ≤ 16384) × Loose us (n + k) at k 0
+  pub settles : {us : List ℕ} {at : ℕ} → Loose us (n + k) at k 0 → length us ≡ length ws → (wordsFor (n + k) ≤ length us) × (n + k ≤ 16384) × Loose us (n + k) at k 0
   settles o e = (omega (arith, g .within .words), g .most, o)
 
 -- In buffers of that length
 module _ {ws bs us ds : List ℕ} {n k : ℕ} (g : Grows ws bs n k) (e : Kept ws bs us ds) where
   -- a slot has its words,
-  pub has-words : (i : ℕ) → i < n + k → 6 * i + 14 ≤ length us
+  pub has-words : (i : ℕ) → i < n + k → WordsIn us i
   has-words i h = omega (arith, g .within .words, e .words)
 
   -- slots move up,
@@ -67,7 +68,7 @@ module _ {ws bs us ds : List ℕ} {n k : ℕ} (g : Grows ws bs n k) (e : Kept ws
       record { order = h; words = omega (arith, e .words); labels = omega (arith, e .labels) }
 
   -- a label that stays where it is has its room,
-  pub here : {vs : List ℕ} {i : ℕ} {x : List ℕ → Bare} → i < n + k → ((ls : List ℕ) → 255 * i + 255 ≤ length ls → Filled us ls vs ls i (x ls)) → Filled us ds vs ds i (x ds)
+  pub here : {vs : List ℕ} {i : ℕ} {x : List ℕ → Bare} → i < n + k → ((ls : List ℕ) → RoomIn ls i → Filled us ls vs ls i (x ls)) → Filled us ds vs ds i (x ds)
   here h f = f ds (omega (arith, g .within .labels, e .labels))
 
   -- and a leaf is built.
@@ -85,10 +86,10 @@ module _ {ws bs us ds : List ℕ} {n k at m : ℕ} (g : Grows ws bs n k) (c : Cu
   unfolding bareAt
   start-same = ap (λ (x : Bare). x .start) same
 
-  pub keeps-front : (6 * i + 14 ≤ length us) × (m ≤ lenOf us i) × (lenOf us i ≤ 255)
+  pub keeps-front : WordsIn us i × (m ≤ lenOf us i) × (lenOf us i ≤ 255)
   keeps-front = (has-words g e i h, omega (arith, len-same, c .cut), omega (arith, len-same, c .short))
 
-  pub keeps-back : (6 * i + 14 ≤ length us) × (255 * i + 255 ≤ length ds) × (m ≤ lenOf us i) × (lenOf us i ≤ 255) × (startOf us i ≤ 4096)
+  pub keeps-back : WordsIn us i × RoomIn ds i × (m ≤ lenOf us i) × (lenOf us i ≤ 255) × (startOf us i ≤ 4096)
   keeps-back = (keeps-front .0, omega (arith, g .within .labels, e .labels), keeps-front .1, keeps-front .2, omega (arith, start-same, c .start))
 
 -- The slots from one in use on move up, as far as there is room.

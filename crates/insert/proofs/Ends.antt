@@ -23,15 +23,15 @@ use Rattle.tree.specs.Calls.{insertCall}
 use Rattle.tree.specs.Context.{Context, top, down, over, plug, depth, before, Leads}
 use Rattle.tree.proofs.Order.{less, even, more, cmp}
 use Rattle.tree.proofs.Context.{insert-plug}
-use Rattle.pool.specs.Layout.{nodesOf, startOf, lenOf, spanOf, labelOf, numAt}
-use Rattle.pool.specs.Records.{nodeRec, rootRec}
-use Rattle.pool.specs.Pool.{poolTree, slotsIn}
+use Rattle.slots.specs.Layout.{slotsIn, wordsFor, nodesOf, startOf, lenOf, spanOf, labelOf, numAt}
+use Rattle.slots.specs.Records.{nodeRec, rootRec}
+use Rattle.pool.specs.Pool.{poolTree}
 use Rattle.pool.specs.Rule.{PoolRule}
 use Rattle.pool.specs.Post.{Meets}
-use Rattle.pool.specs.Splice.{Bare, bareAt, baresFrom, nodeBare, baresF, rootBare, baresT, bareOf, frontOf, backOf}
+use Rattle.slots.specs.Bare.{Bare, bareAt, baresFrom, nodeBare, baresF, rootBare, baresT, bareOf, frontOf, backOf}
 use Rattle.pool.proofs.Stands.{Stands, Holds, nodes-are, stands-at}
 use Rattle.pool.proofs.Held.{slot-is-rec}
-use Rattle.pool.proofs.Bares.{Stops, stops-beside, stops-deeper, baresF-length, node-bares, stands-bares, ahead, behind, ahead-length, tree-around}
+use Rattle.splice.proofs.Bares.{Stops, stops-beside, stops-deeper, baresF-length, node-bares, stands-bares, ahead, behind, ahead-length, tree-around}
 use types.Run.{OneOf}
 use denote.Enum.Declared.{tagOf}
 use Rattle.search.specs.declared.Stop.{Stop}
@@ -346,12 +346,12 @@ grows-by r n k e h =
 
 -- What the code places where its search has ended meets the call's contract.
 module _ {ws bs key : List ℕ} {d : Descent} (w : Known ws bs key d) where
-  slots-are : 6 * nodesOf ws + 8 ≤ length ws
+  slots-are : wordsFor (nodesOf ws) ≤ length ws
   slots-are = let r = w .rule in omega (arith, r .lengths, r .room)
 
   -- what is asked at each end
   abbrev SetAsks : Type 0
-  SetAsks = (6 * nodesOf ws + 8 ≤ length ws) × (d .at .0 < nodesOf ws) × (lenOf ws (d .at .0) ≤ 255)
+  SetAsks = (wordsFor (nodesOf ws) ≤ length ws) × (d .at .0 < nodesOf ws) × (lenOf ws (d .at .0) ≤ 255)
 
   root-asks : d .stop ≡ Stop.Root → SetAsks
   root-asks e =

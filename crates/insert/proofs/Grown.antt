@@ -16,18 +16,19 @@ use Rattle.tree.specs.Insert.{insertT}
 use Rattle.tree.specs.Told.{Told, done, refusal}
 use Rattle.tree.specs.Calls.{insertCall}
 use Rattle.tree.proofs.InsertWf.{insert-wf}
-use Rattle.pool.specs.Layout.{nodesOf}
-use Rattle.pool.specs.Records.{run}
-use Rattle.pool.specs.Pool.{poolTree, slotsOf, slotsIn}
+use Rattle.slots.specs.Layout.{slotsIn, nodesOf}
+use Rattle.slots.specs.Records.{run}
+use Rattle.pool.specs.Pool.{poolTree, slotsOf}
 use Rattle.pool.specs.Rule.{PoolRule}
 use Rattle.pool.specs.Post.{Meets}
-use Rattle.pool.specs.Splice.{Bare, bareAt, baresFrom, baresT, Linked, Settled}
+use Rattle.slots.specs.Bare.{Bare, bareAt, baresFrom, baresT}
+use Rattle.splice.specs.Splice.{Linked, Settled}
 use Rattle.pool.proofs.Decode.{slots-of, lengths-stay}
-use Rattle.pool.proofs.Runs.{run-join, run-length, run-ext, append-parts}
+use Rattle.slots.proofs.Runs.{run-join, run-length, run-ext, append-parts}
 use Rattle.pool.proofs.Stands.{Holds}
 use Rattle.pool.proofs.Answers.{no-rule}
 use Rattle.pool.proofs.Ruled.{rule-tree}
-use Rattle.pool.proofs.Bares.{baresF-length, holds-bares, whole-tree}
+use Rattle.splice.proofs.Bares.{baresF-length, holds-bares, whole-tree}
 use Rattle.search.proofs.Answers.{fits-not, fits-well}
 use Rattle.insert.specs.Splices.{Replaced, total, Placed, full, grown}
 

@@ -12,12 +12,12 @@ use Rattle.tree.specs.Tree.{Forest, nil, node, room, nodesF}
 use Rattle.tree.specs.Insert.{chain, leaf}
 use Rattle.tree.proofs.Nodes.{chainNodes, leaf-nodes}
 use Rattle.label.proofs.Moves.{by-lt}
-use Rattle.pool.specs.Layout.{spanOf}
-use Rattle.pool.specs.Records.{run}
+use Rattle.slots.specs.Layout.{RoomIn, spanOf}
+use Rattle.slots.specs.Records.{run}
 use Rattle.pool.specs.Rule.{Within}
-use Rattle.pool.specs.Splice.{Bare, bareAt, baresFrom, nodeBare, baresF, bareOf, Filled}
-use Rattle.pool.proofs.Runs.{run-cons, run-ext}
-use Rattle.pool.proofs.Bares.{baresF-length}
+use Rattle.slots.specs.Bare.{Bare, bareAt, baresFrom, nodeBare, baresF, bareOf, Filled}
+use Rattle.slots.proofs.Runs.{run-cons, run-ext}
+use Rattle.splice.proofs.Bares.{baresF-length}
 use Rattle.insert.specs.Splices.{leafNodes, leafBares, Built}
 
 -- A chain of one node, and one of more
@@ -139,7 +139,7 @@ built-one {ws} {bs} {vs} {cs} {at} {x} f s =
       high-span = λ i h. f .spans i (λ e. omega arith);
     }
 
-pub built-more : {ws bs us ds vs cs : List ℕ} {at : ℕ} {x : Bare} {xs : List Bare} → 255 * at + 255 ≤ length bs → Filled ws bs us ds at x
+pub built-more : {ws bs us ds vs cs : List ℕ} {at : ℕ} {x : Bare} {xs : List Bare} → RoomIn bs at → Filled ws bs us ds at x
     → spanOf us at ≡ suc (length xs) → Built us ds vs cs (at + 1) xs → Built ws bs vs cs at (x ∷ xs)
 built-more {ws} {bs} {us} {ds} {vs} {cs} {at} {x} {xs} h f s b =
     let ld = f .lenB in

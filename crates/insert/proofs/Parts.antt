@@ -5,9 +5,9 @@ use mathlib.Core.List.{List}
 use Prim.Native.Nat.{ℕ, _+_, _-_, _≤_, _<_}
 use native.Mathlib.Omega.{arith}
 use Rattle.label.proofs.Moves.{by-lt}
-use Rattle.pool.specs.Layout.{startOf, lenOf, spanOf}
-use Rattle.pool.specs.Spans.{Covers, Due, right, short, Loose}
-use Rattle.pool.proofs.Spans.{Rests, covers-to, covers-nested}
+use Rattle.slots.specs.Layout.{startOf, lenOf, spanOf}
+use Rattle.splice.specs.Spans.{Covers, Due, right, short, Loose}
+use Rattle.splice.proofs.Spans.{Rests, covers-to, covers-nested}
 use Rattle.insert.proofs.Spans.{Like, covers-at, start-at, Leafy, leafy-covers, start-moved, moved-right, front-covers, grown-covers}
 
 -- A cut at slot `at` behind m bytes: its upper part, its lower part

@@ -9,15 +9,16 @@ use lib.ListN.{length, length-append, length-drop}
 use lib.Seq.{length-take-le}
 use Rattle.tree.specs.Key.{Key}
 use Rattle.tree.specs.Map.{Num}
-use Rattle.pool.specs.Layout.{nodesOf, startOf, lenOf, spanOf, labelOf}
-use Rattle.pool.specs.Records.{run}
+use Rattle.slots.specs.Layout.{RoomIn, nodesOf, startOf, lenOf, spanOf, labelOf}
+use Rattle.slots.specs.Records.{run}
 use Rattle.pool.specs.Rule.{Within, PoolRule}
-use Rattle.pool.specs.Splice.{Bare, bareAt, baresFrom, Moved, frontOf, backOf, Filled}
-use Rattle.pool.specs.Spans.{Loose}
-use Rattle.pool.proofs.Bares.{start-is, len-is}
-use Rattle.pool.proofs.Cuts.{label-length}
-use Rattle.pool.proofs.Spans.{Rests, rule-rests}
-use Rattle.pool.proofs.Runs.{run-cons, run-whole, run-ext, run-length}
+use Rattle.slots.specs.Bare.{Bare, bareAt, baresFrom, frontOf, backOf, Filled}
+use Rattle.splice.specs.Splice.{Moved}
+use Rattle.splice.specs.Spans.{Loose}
+use Rattle.splice.proofs.Bares.{start-is, len-is}
+use Rattle.slots.proofs.Cuts.{label-length}
+use Rattle.splice.proofs.Spans.{Rests, rule-rests}
+use Rattle.slots.proofs.Runs.{run-cons, run-whole, run-ext, run-length}
 use Rattle.insert.specs.Splices.{leafNodes, leafBares, Built, Grows, Opens, Cuts, Replaced, Forks, forkBares}
 use Rattle.insert.proofs.Leaves.{run-one, leaf-length}
 use Rattle.insert.proofs.Spans.{like, Leafy, leafy-none, leafy-kept, built-leafy, leaf-loose}
@@ -61,7 +62,7 @@ leaf-opened {ws} {bs} {us} {ds} {vs} {cs} {at} {n} {k} {s} {q} v g o kn m b =
     )
 
 -- The two parts of a cut
-module _ (ws bs vs cs : List ℕ) (at lo m : ℕ) (cut : m ≤ lenOf ws at) (short : lenOf ws at ≤ 255) (room : 255 * at + 255 ≤ length bs) where
+module _ (ws bs vs cs : List ℕ) (at lo m : ℕ) (cut : m ≤ lenOf ws at) (short : lenOf ws at ≤ 255) (room : RoomIn bs at) where
   pub upper-is : (u : Num) → bareAt vs cs at ≡ frontOf m u (bareAt ws bs at) → spanOf vs at ≡ spanOf ws at → Upper ws vs at m
   unfolding bareAt
   upper-is u e s =

@@ -11,13 +11,14 @@ use Rattle.tree.specs.Key.{Key}
 use Rattle.tree.specs.Map.{Num}
 use Rattle.tree.specs.Image.{numbersW}
 use Rattle.tree.specs.Told.{Told, done}
-use Rattle.pool.specs.Layout.{nodesOf, lenOf, spanOf, labelOf, startOf}
+use Rattle.slots.specs.Layout.{bytesFor, nodesOf, lenOf, spanOf, labelOf, startOf}
 use Rattle.pool.specs.Rule.{PoolRule}
-use Rattle.pool.specs.Splice.{Bare, bareAt, baresFrom, Filled, Settled, frontOf, backOf}
-use Rattle.pool.specs.Spans.{Covers}
+use Rattle.slots.specs.Bare.{Bare, bareAt, baresFrom, Filled, frontOf, backOf}
+use Rattle.splice.specs.Splice.{Settled}
+use Rattle.splice.specs.Spans.{Covers}
 use Rattle.label.proofs.Moves.{by-eq}
-use Rattle.pool.proofs.Runs.{run-length}
-use Rattle.pool.proofs.Spans.{covers-linked, covers-same, covers-to, rule-rests}
+use Rattle.slots.proofs.Runs.{run-length}
+use Rattle.splice.proofs.Spans.{covers-linked, covers-same, covers-to, rule-rests}
 use Rattle.search.specs.declared.Stop.{Stop}
 use Rattle.insert.specs.Splices.{leafNodes, KeyLeft, newNodes, leafBares, Grows, Opens, Forks, Replaced, forkBares, forkSide, forkWas, total, Placed, grown}
 use Rattle.insert.proofs.Leaves.{run-one, leaf-length}
@@ -72,7 +73,7 @@ pub side-is : (ws bs : List ℕ) (at m : ℕ) (q label : Key) → label ≡ labe
 side-is ws bs at m q label e = ap (λ (l : Key). ltb (getD q 0 0) (getD l m 0)) e
 
 -- A slot filled anew stands where it stood.
-pub replaced-one : (ws bs vs cs : List ℕ) (at : ℕ) (x : Bare) → 255 * nodesOf ws ≤ length bs → at < nodesOf ws → Filled ws bs vs cs at x → Replaced ws bs vs cs at 1 (x ∷ [])
+pub replaced-one : (ws bs vs cs : List ℕ) (at : ℕ) (x : Bare) → bytesFor (nodesOf ws) ≤ length bs → at < nodesOf ws → Filled ws bs vs cs at x → Replaced ws bs vs cs at 1 (x ∷ [])
 replaced-one ws bs vs cs at x h l f =
     record {
       lenW = f .lenW;
@@ -107,7 +108,7 @@ number-placed ws bs us at len w said told el r l short t f own =
     let m = lenOf ws at in
     let x = frontOf m w (bareAt ws bs at) in
     let g : Filled ws bs us bs at x = rw el at f in
-    let room : 255 * nodesOf ws ≤ length bs = omega (arith, r .lengths, r .room) in
+    let room : bytesFor (nodesOf ws) ≤ length bs = omega (arith, r .lengths, r .room) in
     let up = upper-is ws bs us bs at at m (omega arith) short (omega arith) w (g .slot) own in
     let same : (i : ℕ) → i < nodesOf ws → Like ws us i i =
     λ i q.

@@ -5,13 +5,13 @@ use Prim.Native.Nat.{ℕ, suc, _+_, _-_, _≤_, _<_}
 use native.Mathlib.Omega.{arith}
 use lib.ListN.{length}
 use Rattle.label.proofs.Moves.{by-lt}
-use Rattle.pool.specs.Layout.{startOf, lenOf, spanOf}
+use Rattle.slots.specs.Layout.{startOf, lenOf, spanOf}
 use Rattle.tree.specs.Key.{Key}
-use Rattle.pool.specs.Splice.{Bare, bareAt, baresFrom}
-use Rattle.pool.specs.Spans.{Covers, Due, right, short, Loose}
-use Rattle.pool.proofs.Runs.{run-cons}
-use Rattle.pool.proofs.Bares.{start-is, len-is}
-use Rattle.pool.proofs.Spans.{Rests, covers-to}
+use Rattle.slots.specs.Bare.{Bare, bareAt, baresFrom}
+use Rattle.splice.specs.Spans.{Covers, Due, right, short, Loose}
+use Rattle.slots.proofs.Runs.{run-cons}
+use Rattle.splice.proofs.Bares.{start-is, len-is}
+use Rattle.splice.proofs.Spans.{Rests, covers-to}
 use Rattle.insert.specs.Splices.{leafBares, Built}
 use Rattle.insert.proofs.Leaves.{Chained, leaf-chained}
 

@@ -13,7 +13,7 @@ use Rattle.tree.specs.Insert.{leaf, beside, insertF}
 use Rattle.tree.proofs.Order.{cmp-lt, cmp-gt}
 use Rattle.tree.proofs.Parts.{part-same, part-keyEnds, part-fork}
 use Rattle.tree.proofs.InsertFind.{insertF-lt, insertF-same, insertF-keyEnds, insertF-fork}
-use Rattle.pool.specs.Splice.{Bare, nodeBare, baresF, bareOf, frontOf, backOf}
+use Rattle.slots.specs.Bare.{Bare, nodeBare, baresF, bareOf, frontOf, backOf}
 use Rattle.insert.proofs.Leaves.{leaf-beside}
 
 -- Under a path of s bytes the records of g are those of f, with xs where ps stood.

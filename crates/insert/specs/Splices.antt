@@ -12,10 +12,10 @@ use Rattle.tree.specs.Tree.{nil}
 use Rattle.tree.specs.Insert.{leaf}
 use Rattle.tree.specs.Told.{Told, refusal}
 use Rattle.search.specs.declared.Stop.{Stop}
-use Rattle.pool.specs.Layout.{nodesOf, startOf, lenOf, spanOf, labelOf}
-use Rattle.pool.specs.Pool.{slotsIn}
+use Rattle.slots.specs.Layout.{SameHead, slotsIn, RoomIn, nodesOf, startOf, lenOf, spanOf, labelOf}
 use Rattle.pool.specs.Rule.{Within, PoolRule}
-use Rattle.pool.specs.Splice.{Bare, bareAt, baresFrom, baresF, frontOf, backOf, Settled}
+use Rattle.slots.specs.Bare.{Bare, bareAt, baresFrom, baresF, frontOf, backOf}
+use Rattle.splice.specs.Splice.{Settled}
 
 -- The nodes of a new label of so many bytes: 255 are one node, 256 are two.
 abbrev pub leafNodes : (len : ℕ) → ℕ
@@ -46,10 +46,10 @@ leafBares s (a ∷ k) v = baresF s (leaf a k v nil)
 pub record Built (ws bs vs cs : List ℕ) (at : ℕ) (xs : List Bare) : Type 0 where
   pub lenW : length vs ≡ length ws
   pub lenB : length cs ≡ length bs
-  pub head : (j : ℕ) → j < 8 → getD vs j 0 ≡ getD ws j 0
+  pub head : SameHead ws vs
   pub slots : baresFrom vs cs at (length xs) ≡ xs
-  pub low : (i : ℕ) → i < at → 255 * i + 255 ≤ length bs → bareAt vs cs i ≡ bareAt ws bs i
-  pub high : (i : ℕ) → at + length xs ≤ i → 255 * i + 255 ≤ length bs → bareAt vs cs i ≡ bareAt ws bs i
+  pub low : (i : ℕ) → i < at → RoomIn bs i → bareAt vs cs i ≡ bareAt ws bs i
+  pub high : (i : ℕ) → at + length xs ≤ i → RoomIn bs i → bareAt vs cs i ≡ bareAt ws bs i
   pub low-span : (i : ℕ) → i < at → spanOf vs i ≡ spanOf ws i
   pub new-span : (i : ℕ) → at ≤ i → i < at + length xs → i + spanOf vs i ≡ at + length xs
   pub high-span : (i : ℕ) → at + length xs ≤ i → spanOf vs i ≡ spanOf ws i

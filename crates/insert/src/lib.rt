@@ -13,16 +13,16 @@ ghost use Rattle.tree.specs.Image.{numbersW};
 ghost use Rattle.tree.specs.Told.{done, insertedTold};
 ghost use Rattle.pool.specs.Pool.{poolTree};
 ghost use Rattle.pool.specs.Lent.{before, after};
-ghost use Rattle.pool.specs.Layout.{nodesOf, lenOf, spanOf, numAt};
+ghost use Rattle.slots.specs.Layout.{wordsFor, nodesOf, lenOf, spanOf, numAt};
 ghost use Rattle.pool.specs.Rule.{Within, PoolRule};
-ghost use Rattle.pool.specs.Splice.{bareAt, frontOf, backOf};
-ghost use Rattle.pool.specs.Spans.{Loose};
+ghost use Rattle.slots.specs.Bare.{bareAt, frontOf, backOf};
+ghost use Rattle.splice.specs.Spans.{Loose};
 ghost use Rattle.search.specs.Landing.{Lands};
 ghost use Rattle.insert.specs.Post.{InsertAllows};
 ghost use Rattle.insert.specs.Splices.{leafNodes, KeyLeft, newNodes, leafBares, Built, Grows, Opens, Cuts, Replaced, Forks, forkBares, forkSide, forkWas, Placed};
-use pool::splice::Stored;
 use search::Descent;
 use search::Stop;
+use slots::put::Stored;
 use tree::Inserted;
 use tree::RuleNo;
 use tree::Slot;
@@ -59,11 +59,11 @@ fn chain(labels: &mut [u8], words: &mut [u32], at: Slot, start: usize, rest: &[u
     ensures { λ _. ⌜ Built (now (words .entry)) (now (labels .entry)) (now (words .exit)) (now (labels .exit)) (at .0) (leafBares start (now (rest .entry)) (number .0)) ⌝ }
 {
     if rest.len() <= 255 {
-        pool::splice::put_linked(labels, words, at, start, rest, Stored::Number(number), 1);
+        slots::put::put_linked(labels, words, at, start, rest, Stored::Number(number), 1);
         return;
     }
     let span = chain_nodes(rest.len());
-    pool::splice::put_linked(
+    slots::put::put_linked(
         labels,
         words,
         at,
@@ -91,13 +91,13 @@ fn fork_before(
     requires { ⌜ Grows (now words) (now labels) n k × Forks (now words) (at .0) m (now rest) × (k ≡ 1 + leafNodes (length (now rest))) × PoolRule (now words) (now labels) ⌝ }
     ensures { λ _. ⌜ Replaced (now (words .entry)) (now (labels .entry)) (now (words .exit)) (now (labels .exit)) (at .0) 1 (forkBares (now (words .entry)) (now (labels .entry)) (at .0) m (now (rest .entry)) (number .0) true) × Loose (now (words .exit)) (n + k) (at .0 + 1) k 0 ⌝ }
 {
-    let start = pool::start_at(words, at) + m;
+    let start = slots::start_at(words, at) + m;
     let next = at.0 + 1;
     let lower = at.0 + k;
-    pool::splice::move_slots(labels, words, at, Slot(n), k);
-    pool::splice::keep_front(words, at, m, Stored::Nothing);
+    splice::move_slots(labels, words, at, Slot(n), k);
+    slots::put::keep_front(words, at, m, Stored::Nothing);
     chain(labels, words, Slot(next), start, rest, number);
-    pool::splice::keep_back(labels, words, Slot(lower), m);
+    slots::put::keep_back(labels, words, Slot(lower), m);
 }
 
 // The same, with the new leaf behind the lower part and its subtree, which end at `end`.
@@ -114,13 +114,13 @@ fn fork_behind(
     requires { ⌜ Grows (now words) (now labels) n k × Forks (now words) (at .0) m (now rest) × (k ≡ 1 + leafNodes (length (now rest))) × PoolRule (now words) (now labels) ⌝ }
     ensures { λ _. ⌜ Replaced (now (words .entry)) (now (labels .entry)) (now (words .exit)) (now (labels .exit)) (at .0) (spanOf (now (words .entry)) (at .0)) (forkBares (now (words .entry)) (now (labels .entry)) (at .0) m (now (rest .entry)) (number .0) false) × Loose (now (words .exit)) (n + k) (at .0 + 1) k 0 ⌝ }
 {
-    let start = pool::start_at(words, at) + m;
+    let start = slots::start_at(words, at) + m;
     let lower = at.0 + 1;
-    let end = at.0 + pool::span_at(words, at);
-    pool::splice::move_slots(labels, words, Slot(end), Slot(n), k);
-    pool::splice::move_slots(labels, words, at, Slot(end), 1);
-    pool::splice::keep_front(words, at, m, Stored::Nothing);
-    pool::splice::keep_back(labels, words, Slot(lower), m);
+    let end = at.0 + slots::span_at(words, at);
+    splice::move_slots(labels, words, Slot(end), Slot(n), k);
+    splice::move_slots(labels, words, at, Slot(end), 1);
+    slots::put::keep_front(words, at, m, Stored::Nothing);
+    slots::put::keep_back(labels, words, Slot(lower), m);
     chain(labels, words, Slot(end + 1), start, rest, number);
 }
 
@@ -129,7 +129,7 @@ fn byte_below(labels: &[u8], words: &[u32], at: Slot, m: usize, rest: &[u8]) -> 
     requires { ⌜ Within (now words) (now labels) (at .0 + 1) × (m < lenOf (now words) (at .0)) × (lenOf (now words) (at .0) ≤ 255) × (1 ≤ length (now rest)) ⌝ }
     ensures { λ r. ⌜ r ≡ forkSide (now (words .entry)) (now (labels .entry)) (at .0) m (now (rest .entry)) ⌝ }
 {
-    let label = pool::label_at(labels, words, at);
+    let label = slots::label_at(labels, words, at);
     let new = rest[0];
     let old = label[m];
     new < old
@@ -158,12 +158,12 @@ fn fork_label(
 
 // The key ends at the slot: its number is set, and the old one given back. No span changes.
 fn set_number(words: &mut [u32], at: Slot, number: RuleNo) -> Inserted
-    requires { ⌜ (6 * nodesOf (now words) + 8 ≤ length (now words)) × (at .0 < nodesOf (now words)) × (lenOf (now words) (at .0) ≤ 255) ⌝ }
+    requires { ⌜ (wordsFor (nodesOf (now words)) ≤ length (now words)) × (at .0 < nodesOf (now words)) × (lenOf (now words) (at .0) ≤ 255) ⌝ }
     ensures { λ r. ⌜ ((bs : List ℕ) → PoolRule (now (words .entry)) bs → Placed (now (words .entry)) bs (now (words .exit)) bs (at .0) 1 (frontOf (lenOf (now (words .entry)) (at .0)) (some (number .0)) (bareAt (now (words .entry)) bs (at .0)) ∷ []) (done (numbersW (numAt (now (words .entry)) (at .0)) [])) (insertedTold r)) ⌝ }
 {
-    let len = pool::len_at(words, at);
-    let old = pool::splice::stored_at(words, at);
-    pool::splice::keep_front(words, at, len, Stored::Number(number));
+    let len = slots::len_at(words, at);
+    let old = slots::put::stored_at(words, at);
+    slots::put::keep_front(words, at, len, Stored::Number(number));
     match old {
         Stored::Nothing => Inserted::New,
         Stored::Number(v) => Inserted::Replaced(v),
@@ -185,9 +185,9 @@ fn add_leaf(
     requires { ⌜ Grows (now words) (now labels) n k × Opens (now words) (now labels) (at .0) start (now rest) × (k ≡ leafNodes (length (now rest))) ⌝ }
     ensures { λ r. ⌜ Placed (now (words .entry)) (now (labels .entry)) (now (words .exit)) (now (labels .exit)) (at .0) 0 (leafBares start (now (rest .entry)) (number .0)) (done []) (insertedTold r) ⌝ }
 {
-    pool::splice::move_slots(labels, words, at, Slot(n), k);
+    splice::move_slots(labels, words, at, Slot(n), k);
     chain(labels, words, at, start, rest, number);
-    pool::splice::settle_at(words, n + k, at, k);
+    splice::settle_at(words, n + k, at, k);
     Inserted::New
 }
 
@@ -205,10 +205,10 @@ fn add_cut(
     ensures { λ r. ⌜ Placed (now (words .entry)) (now (labels .entry)) (now (words .exit)) (now (labels .exit)) (at .0) 1 (frontOf m (some (number .0)) (bareAt (now (words .entry)) (now (labels .entry)) (at .0)) ∷ backOf m (bareAt (now (words .entry)) (now (labels .entry)) (at .0)) ∷ []) (done []) (insertedTold r) ⌝ }
 {
     let lower = at.0 + 1;
-    pool::splice::move_slots(labels, words, at, Slot(n), 1);
-    pool::splice::keep_front(words, at, m, Stored::Number(number));
-    pool::splice::keep_back(labels, words, Slot(lower), m);
-    pool::splice::settle_at(words, n + 1, Slot(lower), 1);
+    splice::move_slots(labels, words, at, Slot(n), 1);
+    slots::put::keep_front(words, at, m, Stored::Number(number));
+    slots::put::keep_back(labels, words, Slot(lower), m);
+    splice::settle_at(words, n + 1, Slot(lower), 1);
     Inserted::New
 }
 
@@ -228,7 +228,7 @@ fn add_fork(
 {
     let below = at.0 + 1;
     fork_label(labels, words, at, n, k, m, rest, number);
-    pool::splice::settle_at(words, n + k, Slot(below), k);
+    splice::settle_at(words, n + k, Slot(below), k);
     Inserted::New
 }
 
@@ -269,9 +269,9 @@ fn insert_in(labels: &mut [u8], words: &mut [u32], key: &[u8], number: RuleNo) -
     let d = search::descend(labels, words, key);
     let above = d.above;
     let stop = d.stop;
-    let n = pool::nodes_in(words);
+    let n = slots::nodes_in(words);
     let k = new_nodes(stop, above, key.len());
-    if n + k > labels.len() / 255 {
+    if n + k > slots::slots_in(labels) {
         return Inserted::NoRoom;
     }
     place(labels, words, d, n, k, key, number)

@@ -12,7 +12,7 @@ use Rattle.tree.specs.Tree.{Tree, nodesT, keysT, empty}
 use Rattle.tree.specs.Remove.{clearT}
 use Rattle.tree.specs.Told.{Told, done, refusal}
 use Rattle.tree.specs.Calls.{makeCall, clearCall, countsCall}
-use Rattle.pool.specs.Layout.{nodesOf}
+use Rattle.slots.specs.Layout.{nodesOf}
 use Rattle.pool.specs.Pool.{poolTree, slotsOf}
 use Rattle.pool.specs.Rule.{Lengths, PoolRule}
 use Rattle.pool.specs.Post.{Meets}

@@ -14,8 +14,8 @@ use Rattle.tree.specs.Tree.{Forest, nil, node, Tree}
 use Rattle.tree.specs.Reader.{Rule, broken, sound, judge}
 use Rattle.tree.proofs.Order.{none-some}
 use Rattle.tree.proofs.Judge.{All, passed, Judged, passes, breaks, judged}
-use Rattle.pool.specs.Layout.{nodesOf, startOf, lenOf, hasOf, spanOf, firstOf, labelOf, numAt}
-use Rattle.pool.specs.Pool.{lengthRules, slotsIn, slotsOf, childRules, joined, forestAt, rootRules, rooted, poolTree}
+use Rattle.slots.specs.Layout.{slotsIn, nodesOf, startOf, lenOf, hasOf, spanOf, firstOf, labelOf, numAt}
+use Rattle.pool.specs.Pool.{lengthRules, slotsOf, childRules, joined, forestAt, rootRules, rooted, poolTree}
 use Rattle.pool.specs.Rule.{Lengths}
 
 -- Two numbers are equal or not, with the test's answer.

@@ -10,12 +10,12 @@ use Rattle.tree.specs.Tree.{Forest, Tree, nodesF, nodesT}
 use Rattle.tree.specs.Told.{Told}
 use Rattle.tree.specs.Calls.{Outcome, refuses, leaves}
 use Rattle.tree.proofs.Judge.{never}
-use Rattle.pool.specs.Layout.{nodesOf}
-use Rattle.pool.specs.Records.{recAt}
+use Rattle.slots.specs.Layout.{nodesOf}
+use Rattle.slots.specs.Records.{recAt}
 use Rattle.pool.specs.Lent.{Lent, treeIn, sizeIn}
 use Rattle.pool.specs.Free.{SameSlots}
 use Rattle.pool.specs.Post.{Does}
-use Rattle.pool.proofs.Runs.{run-ext}
+use Rattle.slots.proofs.Runs.{run-ext}
 use Rattle.pool.proofs.Decode.{slots-of, lengths-right}
 use Rattle.pool.proofs.Stands.{Holds, nodes-are, stands-recs, recs-stands}
 use Rattle.pool.proofs.Held.{tree-holds, holds-tree}

@@ -10,8 +10,8 @@ use lib.Seq.{drop-cons, getD-drop, take-take}
 use Rattle.tree.specs.Key.{Key, Bytes, keyMax}
 use Rattle.tree.specs.Map.{Num}
 use Rattle.tree.specs.Tree.{Forest, nil, node, Tree, Above, Used, NodeRule, Wf, WellFormed, room, nodesF, nodesT, keysW}
-use Rattle.pool.specs.Layout.{nodesOf, startOf, lenOf, hasOf, numberOf, spanOf, firstOf, labelOf, numOf, numAt}
-use Rattle.pool.specs.Records.{Rec, recAt, nodeRec, rootRec}
+use Rattle.slots.specs.Layout.{labelRoom, bytesFor, RoomIn, nodesOf, startOf, lenOf, hasOf, numberOf, spanOf, firstOf, labelOf, numOf, numAt}
+use Rattle.slots.specs.Records.{Rec, recAt, nodeRec, rootRec}
 use Rattle.pool.specs.Pool.{joined, forestAt, rooted, poolTree}
 use Rattle.pool.specs.Rule.{Lengths}
 use Rattle.pool.proofs.Decode.{Kid, at-end, at-kid, nodeIn, Found, ended, begun, found, slots-of, Root, tree-of, Treed, treed}
@@ -39,11 +39,11 @@ label-parts : (m : ℕ) (x : ℕ) (r s : List ℕ) → s ≡ x ∷ r → 1 ≤ m
 label-parts zero x r s e h i j = absurd (omega arith)
 label-parts (suc m) x r s e h i j = rw e (refl, omega (arith, length-take m (take 254 r), length-take 254 r))
 
-pub labelled : (ws bs : List ℕ) (c : ℕ) → Bytes bs → 1 ≤ lenOf ws c → lenOf ws c ≤ 255 → 255 * c + 255 ≤ length bs → Labelled ws bs c
+pub labelled : (ws bs : List ℕ) (c : ℕ) → Bytes bs → 1 ≤ lenOf ws c → lenOf ws c ≤ 255 → RoomIn bs c → Labelled ws bs c
 labelled ws bs c by h i j =
-    let d : drop (255 * c) bs ≡ firstOf bs c ∷ drop (suc (255 * c)) bs = drop-cons bs (255 * c) 0 (omega arith) in
-    let p = label-parts (lenOf ws c) (firstOf bs c) (drop (suc (255 * c)) bs) (drop (255 * c) bs) d h i (simp length-drop (omega arith)) in
-    record { whole = p .0; len = p .1; bytes = bytes-take (lenOf ws c) (take 255 (drop (255 * c) bs)) (bytes-take 255 (drop (255 * c) bs) (bytes-drop (255 * c) bs by)) }
+    let d : drop (bytesFor c) bs ≡ firstOf bs c ∷ drop (suc (bytesFor c)) bs = drop-cons bs (bytesFor c) 0 (omega arith) in
+    let p = label-parts (lenOf ws c) (firstOf bs c) (drop (suc (bytesFor c)) bs) (drop (bytesFor c) bs) d h i (simp length-drop (omega arith)) in
+    record { whole = p .0; len = p .1; bytes = bytes-take (lenOf ws c) (take labelRoom (drop (bytesFor c) bs)) (bytes-take labelRoom (drop (bytesFor c) bs) (bytes-drop (bytesFor c) bs by)) }
 
 -- has and number as a number that may be missing, and back
 pub num-has : (h v : ℕ) → h ≤ 1 → h ≡ keysW (numOf h v)
@@ -86,7 +86,7 @@ unfolding nodesF
 standing-nil ws bs s least c e f h i =
     subst (λ (g : Forest). Standing ws bs s least c e g) (sym i) (record { stands = tt; ends = omega arith; wf = tt; lowest = tt })
 
-module _ (ws bs : List ℕ) (by : Bytes bs) (s least c e : ℕ) (k : Kid ws bs s least c e) (inside : 255 * e ≤ length bs) (kids rest : Forest)
+module _ (ws bs : List ℕ) (by : Bytes bs) (s least c e : ℕ) (k : Kid ws bs s least c e) (inside : bytesFor e ≤ length bs) (kids rest : Forest)
     (x : Standing ws bs (s + lenOf ws c) 0 (c + 1) (c + spanOf ws c) kids) (y : Standing ws bs s (firstOf bs c + 1) (c + spanOf ws c) e rest) where
   l : Labelled ws bs c
   l = labelled ws bs c by (k .some) (k .short) (omega (arith, k .span, k .inside))
@@ -136,7 +136,7 @@ module _ (ws bs : List ℕ) (by : Bytes bs) (s least c e : ℕ) (k : Kid ws bs s
         lowest = k .order;
       }
 
-pub found-stands : (n : ℕ) (ws bs : List ℕ) → Bytes bs → (s least c e : ℕ) (f : Forest) → 255 * e ≤ length bs → forestAt n ws bs s least c e ≡ some f
+pub found-stands : (n : ℕ) (ws bs : List ℕ) → Bytes bs → (s least c e : ℕ) (f : Forest) → bytesFor e ≤ length bs → forestAt n ws bs s least c e ≡ some f
     → Standing ws bs s least c e f
 found-stands zero ws bs by s least c e f h q =
     elim (found zero ws bs s least c e f q) [ ended i j ↦ standing-nil ws bs s least c e f i j | begun m z i k ks r p u w ↦ absurd (omega arith) ]
@@ -184,7 +184,7 @@ used-nodes none (node b l w kids rest) h = omega arith
 
 -- the first byte of a slot whose label is b ∷ l
 pub first-is : (ws bs : List ℕ) (c b : ℕ) (l : Key) → labelOf ws bs c ≡ b ∷ l → firstOf bs c ≡ b
-first-is ws bs c b l e = ap (λ (x : ℕ). getD bs x 0) (sym (add-zero (255 * c))) ∙ sym (getD-drop (255 * c) bs 0 0) ∙ go (lenOf ws c) (drop (255 * c) bs) e
+first-is ws bs c b l e = ap (λ (x : ℕ). getD bs x 0) (sym (add-zero (bytesFor c))) ∙ sym (getD-drop (bytesFor c) bs 0 0) ∙ go (lenOf ws c) (drop (bytesFor c) bs) e
   where
     go : (m : ℕ) (r : List ℕ) → take m (take 255 r) ≡ b ∷ l → getD r 0 0 ≡ b
     go zero r q = cc
@@ -285,9 +285,3 @@ holds-tree ws bs t h =
     let x = stands-found (t .kids) (nodesOf ws) ws bs 0 0 1 (omega arith) (h .kids) (h .wf) (least-0 (t .kids)) in
     let x′ : forestAt (nodesOf ws) ws bs 0 0 1 (nodesOf ws) ≡ some (t .kids) = subst (λ (e : ℕ). forestAt (nodesOf ws) ws bs 0 0 1 e ≡ some (t .kids)) m x in
     tree-of ws bs (h .slots) (slots-of ws bs (h .slots) (h .lengths)) r ∙ rw (x′, i .num) (unfold rooted in refl)
-
--- The label as a part of the buffer
-pub label-part : (ws bs : List ℕ) (c n : ℕ) → n ≡ lenOf ws c → lenOf ws c ≤ 255 → take (255 * c + n - 255 * c) (drop (255 * c) bs) ≡ labelOf ws bs c
-label-part ws bs c n e h =
-    let m : 255 * c + n - 255 * c ≡ lenOf ws c = omega arith in
-    rw m (sym (take-take (lenOf ws c) 255 (drop (255 * c) bs) h))

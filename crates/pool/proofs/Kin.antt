@@ -3,7 +3,7 @@ use mathlib.Core.Path.{_≡_, subst}
 use mathlib.Core.List.{List}
 use Prim.Native.Nat.{ℕ, _+_, _<_, _≤_}
 use native.Mathlib.Omega.{arith}
-use Rattle.pool.specs.Layout.{spanOf, firstOf}
+use Rattle.slots.specs.Layout.{spanOf, firstOf}
 use Rattle.pool.specs.Rule.{Child, Children, done, child, NodeAt}
 
 pub first-child : {ws bs : List ℕ} {base e least c : ℕ} → c < e → Children ws bs base e least c → Child ws bs base e least c

@@ -2,7 +2,6 @@ pub mod Test
 pub mod Kin
 pub mod Decode
 pub mod Ruled
-pub mod Runs
 pub mod Stands
 pub mod Held
 pub mod Sums
@@ -10,11 +9,3 @@ pub mod Answers
 pub mod Decided
 pub mod Free
 pub mod Outcomes
-pub mod Reach
-pub mod Bares
-pub mod Slots
-pub mod Cuts
-pub mod Gaps
-pub mod Puts
-pub mod Altered
-pub mod Spans

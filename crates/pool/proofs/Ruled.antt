@@ -7,7 +7,7 @@ use native.Mathlib.Omega.{arith}
 use Rattle.tree.specs.Tree.{Forest, nil, node, Tree}
 use Rattle.tree.specs.Key.{keyMax}
 use Rattle.label.proofs.Moves.{by-lt, by-eq}
-use Rattle.pool.specs.Layout.{nodesOf, startOf, lenOf, hasOf, spanOf, firstOf, numAt}
+use Rattle.slots.specs.Layout.{nodesOf, startOf, lenOf, hasOf, spanOf, firstOf, numAt}
 use Rattle.pool.specs.Pool.{joined, forestAt, rooted, poolTree, slotsOf}
 use Rattle.pool.specs.Rule.{Child, Children, done, child, NodeAt, Lengths, PoolRule}
 use Rattle.pool.proofs.Decode.{Kid, at-end, at-kid, nodeIn, Found, ended, begun, found, slots-of, Root, tree-of, Treed, treed}

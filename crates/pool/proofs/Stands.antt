@@ -8,9 +8,9 @@ use lib.ListN.{length, length-append}
 use Rattle.tree.specs.Key.{Key}
 use Rattle.tree.specs.Map.{Num}
 use Rattle.tree.specs.Tree.{Forest, nil, node, Tree, nodesF, nodesT, WellFormed}
-use Rattle.pool.specs.Layout.{nodesOf}
-use Rattle.pool.specs.Records.{Rec, recAt, run, recsFrom, nodeRec, recsF, rootRec, recsT}
-use Rattle.pool.proofs.Runs.{Parts, run-whole, run-parts}
+use Rattle.slots.specs.Layout.{nodesOf}
+use Rattle.slots.specs.Records.{Rec, recAt, run, recsFrom, nodeRec, recsF, rootRec, recsT}
+use Rattle.slots.proofs.Runs.{Parts, run-whole, run-parts}
 use Rattle.pool.specs.Rule.{Lengths}
 
 -- The forest f stands from slot c on, under a path of s bytes.

@@ -3,9 +3,10 @@ use mathlib.Core.List.{List, [], _∷_}
 use mathlib.Core.Option.{Option, none, some}
 use Prim.Native.Nat.{ℕ, zero, suc, _+_}
 use lib.ListN.{set}
-use lib.Seq.{sets}
 use Rattle.pool.specs.declared.Sized.{Sized}
-use Rattle.pool.specs.Layout.{hasOf}
+use Rattle.slots.specs.Layout.{nodesWord, hasOf}
+use Rattle.slots.specs.declared.put.Head.{Head}
+use Rattle.slots.specs.Put.{wordsPut}
 
 -- the code's answer as a number that may be missing
 abbrev pub sizedOf : Sized → Option ℕ
@@ -17,6 +18,10 @@ unfoldable pub hasSum : List ℕ → ℕ → ℕ
 hasSum ws zero = 0
 hasSum ws (suc n) = hasSum ws n + hasOf ws n
 
--- the words with one slot in use, the root: no path, no label, no number, alone in its span
+-- the root of the empty tree: no path, no label, no number, alone in its span
+abbrev pub freshRoot : Head
+freshRoot = record { start = 0; len = 0; has = 0; number = record { 0 = 0 }; span = 1 }
+
+-- the words with that slot in use and no other
 unfoldable pub emptied : List ℕ → List ℕ
-emptied ws = sets (set ws 0 1) 8 (0 ∷ 0 ∷ 0 ∷ 0 ∷ 1 ∷ [])
+emptied ws = wordsPut (set ws nodesWord 1) 0 freshRoot

@@ -2,8 +2,8 @@
 -- label's length, each slot's unused word, and the number of a slot that has none.
 use mathlib.Core.Path.{_≡_}
 use Prim.Native.Nat.{ℕ, _<_}
-use Rattle.pool.specs.Layout.{nodesOf}
-use Rattle.pool.specs.Records.{recAt}
+use Rattle.slots.specs.Layout.{nodesOf}
+use Rattle.slots.specs.Records.{recAt}
 use Rattle.pool.specs.Lent.{Lent, sizeIn}
 
 -- The same number of slots, the same number in use, and in each of those the same start, length, span and label, and the same

@@ -5,7 +5,8 @@ use Prim.Native.Nat.{ℕ}
 use denote.Ref.{RefT, now}
 use denote.Triple.Both.{Both}
 use Rattle.tree.specs.Tree.{Tree}
-use Rattle.pool.specs.Pool.{poolTree, slotsOf, slotsIn}
+use Rattle.slots.specs.Layout.{slotsIn}
+use Rattle.pool.specs.Pool.{poolTree, slotsOf}
 
 pub record Lent : Type 0 where
   pub words : List ℕ

@@ -1,12 +1,6 @@
-pub mod Layout
-pub mod Records
 pub mod Pool
 pub mod Lent
 pub mod Free
 pub mod Rule
 pub mod Post
 pub mod Fields
-pub mod Splice
-pub mod Put
-pub mod Altered
-pub mod Spans

@@ -3,7 +3,7 @@
 use mathlib.Core.List.{List, [], _∷_}
 use mathlib.Core.Option.{Option, none, some}
 use mathlib.Core.Bool.{Bool, true, false}
-use Prim.Native.Nat.{ℕ, zero, suc, _+_, _*_, _/_}
+use Prim.Native.Nat.{ℕ, zero, suc, _+_}
 use lib.ListN.{length, drop}
 use lib.Dec.{eqb}
 use Rattle.tree.specs.Key.{Key, keyMax}
@@ -11,7 +11,7 @@ use Rattle.tree.specs.Map.{Num}
 use Rattle.tree.specs.Tree.{Forest, nil, node, Tree}
 use Rattle.tree.specs.Told.{Told, refusal}
 use Rattle.tree.specs.Reader.{Rule, atMost, equal, Tested, broken, sound, judge}
-use Rattle.pool.specs.Layout.{nodesOf, startOf, lenOf, hasOf, spanOf, firstOf, labelOf, numAt}
+use Rattle.slots.specs.Layout.{wordsFor, bytesFor, slotsIn, nodesOf, startOf, lenOf, hasOf, spanOf, firstOf, labelOf, numAt}
 
 -- A test of a pool: what fails is told as 1.
 abbrev pub most : ℕ → ℕ → Rule
@@ -22,10 +22,7 @@ is a b = equal a b (refusal 1)
 
 -- The lengths: S slots, from 1 to 16,384, are 255·S bytes and 6·S + 8 words.
 abbrev pub lengthRules : (ws bs : List ℕ) (slots : ℕ) → List Rule
-lengthRules ws bs slots = most 1 slots ∷ most slots 16384 ∷ is (length bs) (255 * slots) ∷ is (length ws) (6 * slots + 8) ∷ []
-
-abbrev pub slotsIn : List ℕ → ℕ
-slotsIn bs = length bs / 255
+lengthRules ws bs slots = most 1 slots ∷ most slots 16384 ∷ is (length bs) (bytesFor slots) ∷ is (length ws) (wordsFor slots) ∷ []
 
 -- The number of slots, or none where the lengths are wrong
 unfoldable pub slotsOf : (ws bs : List ℕ) → Option ℕ

@@ -6,7 +6,7 @@ use Prim.Native.Nat.{ℕ, _+_, _*_, _≤_}
 use Prim.Native.Nat.{_<_}
 use lib.ListN.{length}
 use Rattle.tree.specs.Key.{keyMax}
-use Rattle.pool.specs.Layout.{nodesOf, startOf, lenOf, hasOf, spanOf, firstOf}
+use Rattle.slots.specs.Layout.{wordsFor, bytesFor, nodesOf, startOf, lenOf, hasOf, spanOf, firstOf}
 
 -- A test's answer
 pub record Says (r : Bool) (P : Type 0) : Type 0 where
@@ -15,8 +15,8 @@ pub record Says (r : Bool) (P : Type 0) : Type 0 where
 
 -- The slots below e lie within the buffers.
 pub record Within (ws bs : List ℕ) (e : ℕ) : Type 0 where
-  pub words : 6 * e + 8 ≤ length ws
-  pub labels : 255 * e ≤ length bs
+  pub words : wordsFor e ≤ length ws
+  pub labels : bytesFor e ≤ length bs
 
 -- Slot c as a child: base bytes above it, its first byte at least `least`, its span within e
 pub record Child (ws bs : List ℕ) (base e least c : ℕ) : Type 0 where
@@ -45,8 +45,8 @@ pub record NodeAt (ws bs : List ℕ) (n i : ℕ) : Type 0 where
 pub record Lengths (ws bs : List ℕ) (slots : ℕ) : Type 0 where
   pub least : 1 ≤ slots
   pub most : slots ≤ 16384
-  pub labels : length bs ≡ 255 * slots
-  pub words : length ws ≡ 6 * slots + 8
+  pub labels : length bs ≡ bytesFor slots
+  pub words : length ws ≡ wordsFor slots
 
 -- The whole pool
 pub record PoolRule (ws bs : List ℕ) : Type 0 where

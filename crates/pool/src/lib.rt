@@ -1,14 +1,18 @@
-// A pool of slots in two lent slices: its fields, the full test, and the calls that need no search. docs/POOL.md has the
-// layout and the rule. Only this crate knows where a field stands.
+// A pool of slots in two lent slices: the full test, and the calls that need no search. docs/POOL.md has the rule.
 ghost use mathlib.Core.Path.{_≡_};
 ghost use Prim.Native.Nat.{ℕ, _+_, _*_, _≤_, _<_};
 ghost use lib.ListN.{length};
-ghost use Rattle.pool.specs.Layout.{nodesOf, startOf, lenOf, hasOf, numberOf, spanOf, firstOf, labelOf};
+ghost use Rattle.slots.specs.Layout.{wordsFor, WordsIn, hasOf};
 ghost use Rattle.pool.specs.Pool.{slotsOf};
 ghost use Rattle.pool.specs.Rule.{Says, Within, Child, Children, NodeAt, Lengths, PoolRule};
 ghost use Rattle.pool.specs.Lent.{before, after};
 ghost use Rattle.pool.specs.Post.{MakeAllows, ClearAllows, CountsAllows};
 ghost use Rattle.pool.specs.Fields.{sizedOf, hasSum, emptied};
+use slots::HEAD_WORDS;
+use slots::LABEL_ROOM;
+use slots::SLOT_WORDS;
+use slots::put::Head;
+use slots::put::put_words;
 use tree::Counted;
 use tree::Emptied;
 use tree::RuleNo;
@@ -20,100 +24,21 @@ pub enum Sized {
     Wrong,
 }
 
-// A word as a place or a length.
-fn wide(x: u32) -> usize
-    ensures { λ r. ⌜ (r ≡ x) × (r < 4294967296) ⌝ }
-{
-    x as usize
-}
-
-// How many slots are in use.
-pub fn nodes_in(words: &[u32]) -> usize
-    requires { ⌜ 1 ≤ length (now words) ⌝ }
-    ensures { λ r. ⌜ (r ≡ nodesOf (now (words .entry))) × (r < 4294967296) ⌝ }
-{
-    wide(words[0])
-}
-
-// Bytes of the path above the slot's label.
-pub fn start_at(words: &[u32], at: Slot) -> usize
-    requires { ⌜ 6 * at .0 + 14 ≤ length (now words) ⌝ }
-    ensures { λ r. ⌜ (r ≡ startOf (now (words .entry)) (at .0)) × (r < 4294967296) ⌝ }
-{
-    let i = at.0;
-    wide(words[6 * i + 8])
-}
-
-// The length of the slot's label.
-pub fn len_at(words: &[u32], at: Slot) -> usize
-    requires { ⌜ 6 * at .0 + 14 ≤ length (now words) ⌝ }
-    ensures { λ r. ⌜ (r ≡ lenOf (now (words .entry)) (at .0)) × (r < 4294967296) ⌝ }
-{
-    let i = at.0;
-    wide(words[6 * i + 9])
-}
-
-// 1 if the slot has a number, else 0.
-pub fn has_at(words: &[u32], at: Slot) -> usize
-    requires { ⌜ 6 * at .0 + 14 ≤ length (now words) ⌝ }
-    ensures { λ r. ⌜ (r ≡ hasOf (now (words .entry)) (at .0)) × (r < 4294967296) ⌝ }
-{
-    let i = at.0;
-    wide(words[6 * i + 10])
-}
-
-// The slot's number, if it has one.
-pub fn number_at(words: &[u32], at: Slot) -> RuleNo
-    requires { ⌜ 6 * at .0 + 14 ≤ length (now words) ⌝ }
-    ensures { λ r. ⌜ r .0 ≡ numberOf (now (words .entry)) (at .0) ⌝ }
-{
-    let i = at.0;
-    RuleNo(words[6 * i + 11])
-}
-
-// Nodes of the slot's subtree, itself included.
-pub fn span_at(words: &[u32], at: Slot) -> usize
-    requires { ⌜ 6 * at .0 + 14 ≤ length (now words) ⌝ }
-    ensures { λ r. ⌜ (r ≡ spanOf (now (words .entry)) (at .0)) × (r < 4294967296) ⌝ }
-{
-    let i = at.0;
-    wide(words[6 * i + 12])
-}
-
-// The first byte of the slot's label.
-pub fn first_at(labels: &[u8], at: Slot) -> u8
-    requires { ⌜ 255 * at .0 + 255 ≤ length (now labels) ⌝ }
-    ensures { λ r. ⌜ (r ≡ firstOf (now (labels .entry)) (at .0)) × (r < 256) ⌝ }
-{
-    let i = at.0;
-    labels[255 * i]
-}
-
-// The slot's label.
-pub fn label_at<'a>(labels: &'a [u8], words: &[u32], at: Slot) -> &'a [u8]
-    requires { ⌜ (6 * at .0 + 14 ≤ length (now words)) × (255 * at .0 + 255 ≤ length (now labels)) × (lenOf (now words) (at .0) ≤ 255) ⌝ }
-    ensures { λ r. ⌜ now r ≡ labelOf (now (words .entry)) (now (labels .entry)) (at .0) ⌝ }
-{
-    let from = 255 * at.0;
-    let to = from + len_at(words, at);
-    &labels[from..to]
-}
-
 // The number of slots by the lengths of the two slices.
 pub fn slots_of(labels: &[u8], words: &[u32]) -> Sized
     ensures { λ r. ⌜ sizedOf r ≡ slotsOf (now (words .entry)) (now (labels .entry)) ⌝ }
 {
-    let slots = labels.len() / 255;
+    let slots = slots::slots_in(labels);
     if slots < 1 {
         return Sized::Wrong;
     }
     if slots > 16384 {
         return Sized::Wrong;
     }
-    if labels.len() != 255 * slots {
+    if labels.len() != LABEL_ROOM * slots {
         return Sized::Wrong;
     }
-    if words.len() != 6 * slots + 8 {
+    if words.len() != SLOT_WORDS * slots + HEAD_WORDS {
         return Sized::Wrong;
     }
     Sized::Slots(slots)
@@ -124,27 +49,27 @@ fn child_ok(labels: &[u8], words: &[u32], base: usize, end: Slot, least: usize, 
     requires { ⌜ Within (now words) (now labels) (end .0) × (c .0 < end .0) ⌝ }
     ensures { λ r. ⌜ Says r (Child (now (words .entry)) (now (labels .entry)) base (end .0) least (c .0)) ⌝ }
 {
-    if start_at(words, c) != base {
+    if slots::start_at(words, c) != base {
         return false;
     }
-    let n = len_at(words, c);
+    let n = slots::len_at(words, c);
     if n < 1 {
         return false;
     }
     if n > 255 {
         return false;
     }
-    let s = span_at(words, c);
+    let s = slots::span_at(words, c);
     if s < 1 {
         return false;
     }
     if end.0 - c.0 < s {
         return false;
     }
-    if has_at(words, c) + s < 2 {
+    if slots::has_at(words, c) + s < 2 {
         return false;
     }
-    if (first_at(labels, c) as usize) < least {
+    if (slots::first_at(labels, c) as usize) < least {
         return false;
     }
     true
@@ -161,8 +86,8 @@ fn children_ok(labels: &[u8], words: &[u32], base: usize, end: Slot, from: Slot)
         if !child_ok(labels, words, base, end, least, Slot(c)) {
             return false;
         }
-        least = (first_at(labels, Slot(c)) as usize) + 1;
-        c += span_at(words, Slot(c));
+        least = (slots::first_at(labels, Slot(c)) as usize) + 1;
+        c += slots::span_at(words, Slot(c));
     }
     true
 }
@@ -173,14 +98,14 @@ fn node_ok(labels: &[u8], words: &[u32], n: usize, at: Slot) -> bool
     ensures { λ r. ⌜ Says r (NodeAt (now (words .entry)) (now (labels .entry)) n (at .0)) ⌝ }
 {
     let i = at.0;
-    if has_at(words, at) > 1 {
+    if slots::has_at(words, at) > 1 {
         return false;
     }
-    let base = start_at(words, at) + len_at(words, at);
+    let base = slots::start_at(words, at) + slots::len_at(words, at);
     if base > 4096 {
         return false;
     }
-    let s = span_at(words, at);
+    let s = slots::span_at(words, at);
     if s < 1 {
         return false;
     }
@@ -195,20 +120,20 @@ fn tree_ok(labels: &[u8], words: &[u32], slots: usize) -> bool
     requires { ⌜ Lengths (now words) (now labels) slots ⌝ }
     ensures { λ r. ⌜ Says r (PoolRule (now (words .entry)) (now (labels .entry))) ⌝ }
 {
-    let n = nodes_in(words);
+    let n = slots::nodes_in(words);
     if n < 1 {
         return false;
     }
     if n > slots {
         return false;
     }
-    if start_at(words, Slot(0)) != 0 {
+    if slots::start_at(words, Slot(0)) != 0 {
         return false;
     }
-    if len_at(words, Slot(0)) != 0 {
+    if slots::len_at(words, Slot(0)) != 0 {
         return false;
     }
-    if span_at(words, Slot(0)) != n {
+    if slots::span_at(words, Slot(0)) != n {
         return false;
     }
     let mut i = 0;
@@ -233,15 +158,18 @@ pub fn is_pool(labels: &[u8], words: &[u32]) -> bool
 
 // The empty tree: the root alone, without a number.
 pub fn write_empty(words: &mut [u32])
-    requires { ⌜ 14 ≤ length (now words) ⌝ }
+    requires { ⌜ WordsIn (now words) 0 ⌝ }
     ensures { λ _. ⌜ now (words .exit) ≡ emptied (now (words .entry)) ⌝ }
 {
-    words[0] = 1;
-    words[8] = 0;
-    words[9] = 0;
-    words[10] = 0;
-    words[11] = 0;
-    words[12] = 1;
+    slots::set_nodes(words, 1);
+    let root = Head {
+        start: 0,
+        len: 0,
+        has: 0,
+        number: RuleNo(0),
+        span: 1,
+    };
+    put_words(words, Slot(0), root);
 }
 
 // Makes a fresh pool. Only the lengths are tested; old contents don't matter.
@@ -268,13 +196,13 @@ pub fn clear(labels: &mut [u8], words: &mut [u32]) -> Emptied
 
 // How many of the first n slots have a number.
 pub fn keys_in(words: &[u32], n: usize) -> usize
-    requires { ⌜ (6 * n + 8 ≤ length (now words)) × (n ≤ 16384) × ((i : ℕ) → i < n → hasOf (now words) i ≤ 1) ⌝ }
+    requires { ⌜ (wordsFor n ≤ length (now words)) × (n ≤ 16384) × ((i : ℕ) → i < n → hasOf (now words) i ≤ 1) ⌝ }
     ensures { λ r. ⌜ r ≡ hasSum (now (words .entry)) n ⌝ }
 {
     let mut keys: usize = 0;
     let mut i: usize = 0;
     while i < n {
-        keys += has_at(words, Slot(i));
+        keys += slots::has_at(words, Slot(i));
         i += 1;
     }
     keys
@@ -287,10 +215,6 @@ pub fn counts(labels: &[u8], words: &[u32]) -> Counted
     if !is_pool(labels, words) {
         return Counted::NotPool;
     }
-    let n = nodes_in(words);
+    let n = slots::nodes_in(words);
     Counted::Counts(keys_in(words, n), n)
 }
-
-pub mod alter;
-pub mod put;
-pub mod splice;

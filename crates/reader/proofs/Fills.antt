@@ -12,12 +12,13 @@ use Rattle.tree.specs.Tree.{Tree, nodesT, keysW}
 use Rattle.tree.specs.Image.{numbersW}
 use Rattle.tree.specs.Reader.{hasNumber}
 use Rattle.tree.proofs.ReaderParts.{headed}
-use Rattle.pool.specs.Layout.{numOf}
-use Rattle.pool.specs.Records.{Rec, recAt, run}
-use Rattle.pool.specs.Put.{SlotPut}
-use Rattle.pool.specs.Splice.{Bare, bareAt, bareOf, baresFrom, baresT}
-use Rattle.pool.proofs.Runs.{run-join, run-length, run-ext}
-use Rattle.pool.proofs.Bares.{bare-of, baresF-length}
+use Rattle.slots.specs.Layout.{numOf}
+use Rattle.slots.specs.Records.{Rec, recAt, run}
+use Rattle.slots.specs.Put.{SlotPut}
+use Rattle.slots.specs.Bare.{Bare, bareAt, bareOf, baresFrom, baresT}
+use Rattle.slots.proofs.Runs.{run-join, run-length, run-ext}
+use Rattle.slots.proofs.Slots.{bare-of}
+use Rattle.splice.proofs.Bares.{baresF-length}
 use Rattle.pool.proofs.Stands.{nodes-are}
 use Rattle.reader.specs.declared.fill.Cursor.{Cursor}
 use Rattle.reader.specs.Fill.{Room, SlotDue, recRead, RecordDue, Behind, ImageOf, Bared}

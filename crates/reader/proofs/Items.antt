@@ -12,7 +12,7 @@ use Rattle.tree.specs.Tree.{Forest, nil, node, Tree, Wf, WellFormed, room, keys
 use Rattle.tree.specs.Image.{flags, imageF, numbersW, numbersF, imageT, numbersT}
 use Rattle.tree.specs.Reader.{hasNumber}
 use Rattle.tree.proofs.ReaderParts.{flags-say, headed, numbers-node}
-use Rattle.pool.specs.Splice.{Bare, bareOf, baresF, baresT}
+use Rattle.slots.specs.Bare.{Bare, bareOf, baresF, baresT}
 
 -- What a record says of its node, and the bytes of the path above it
 pub record Item : Type 0 where

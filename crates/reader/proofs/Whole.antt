@@ -11,12 +11,14 @@ use Rattle.tree.specs.Calls.{readTold, readCall}
 use Rattle.tree.proofs.Loader.{Loads, read-accepts}
 use Rattle.pool.specs.Pool.{slotsOf}
 use Rattle.pool.specs.Rule.{Lengths}
-use Rattle.pool.specs.Splice.{bareAt, baresFrom, baresT, Linked, Settled}
+use Rattle.slots.specs.Bare.{bareAt, baresFrom, baresT}
+use Rattle.splice.specs.Splice.{Linked, Settled}
 use Rattle.pool.specs.Post.{Meets, Leaves}
 use Rattle.pool.proofs.Decode.{lengths-right, lengths-stay, slots-stay}
-use Rattle.pool.proofs.Runs.{run-ext}
-use Rattle.pool.proofs.Bares.{Whole, whole-tree}
+use Rattle.slots.proofs.Runs.{run-ext}
+use Rattle.splice.proofs.Bares.{Whole, whole-tree}
 use Rattle.reader.specs.Fill.{ImageOf, RecordsDue, Bared, Recorded, FillDue}
+use Rattle.slots.specs.Layout.{wordsFor}
 
 module _ {s ns ws bs : List ℕ} (by : Bytes s) (d : FillDue s ns ws bs) where
   loads : Loads s ns (d .slots) (d .tree)
@@ -38,7 +40,7 @@ module _ {s ns ws bs : List ℕ} (by : Bytes s) (d : FillDue s ns ws bs) where
     bared : Bared vs cs n (d .tree)
     bared = r .filled (d .tree) known
 
-    pub settle-due : (6 * n + 8 ≤ length vs) × (n ≤ 16384)
+    pub settle-due : (wordsFor n ≤ length vs) × (n ≤ 16384)
     settle-due = omega (arith, bared .count, loads .fits, lengths, r .words)
 
     module _ {us : List ℕ} (e : Settled vs us n) where

@@ -8,16 +8,16 @@ use lib.ListN.{length, getD, take, drop}
 use Rattle.tree.specs.Tree.{Tree, nodesT, WellFormed}
 use Rattle.tree.specs.Image.{imageT, numbersT}
 use Rattle.tree.specs.Reader.{hasNumber, ok, readT}
-use Rattle.pool.specs.Layout.{numOf}
+use Rattle.slots.specs.Layout.{wordsFor, bytesFor, numOf}
 use Rattle.pool.specs.Pool.{slotsOf}
-use Rattle.pool.specs.Records.{Rec}
-use Rattle.pool.specs.Splice.{baresFrom, baresT}
+use Rattle.slots.specs.Records.{Rec}
+use Rattle.slots.specs.Bare.{baresFrom, baresT}
 use Rattle.reader.specs.declared.fill.Cursor.{Cursor}
 
 -- The slots below e are there.
 pub record Room (ws bs : List ℕ) (e : ℕ) : Type 0 where
-  pub words : 6 * e + 8 ≤ length ws
-  pub labels : 255 * e ≤ length bs
+  pub words : wordsFor e ≤ length ws
+  pub labels : bytesFor e ≤ length bs
   pub few : e ≤ 16384
 
 -- A record that can be written

@@ -18,19 +18,20 @@ use Rattle.tree.proofs.Parts.{strip-append}
 use Rattle.tree.proofs.RemoveFind.{eraseF-here}
 use Rattle.tree.proofs.RemoveWf.{erase-wf}
 use Rattle.tree.proofs.Context.{erase-plug}
-use Rattle.pool.specs.Layout.{nodesOf, startOf, lenOf, spanOf, numAt}
-use Rattle.pool.specs.Records.{nodeRec, rootRec}
+use Rattle.slots.specs.Layout.{WordsIn, RoomIn, nodesOf, startOf, lenOf, spanOf, numAt}
+use Rattle.slots.specs.Records.{nodeRec, rootRec}
 use Rattle.pool.specs.Pool.{poolTree, slotsOf}
 use Rattle.pool.specs.Rule.{PoolRule}
 use Rattle.pool.specs.Post.{Meets}
-use Rattle.pool.specs.Splice.{Bare, bareAt, nodeBare, rootBare}
-use Rattle.pool.specs.Altered.{numberless, Altered}
+use Rattle.slots.specs.Bare.{Bare, bareAt, nodeBare, rootBare}
+use Rattle.splice.specs.Altered.{numberless, Altered}
 use Rattle.pool.proofs.Decode.{slots-stay}
 use Rattle.pool.proofs.Answers.{no-rule}
 use Rattle.pool.proofs.Ruled.{rule-tree}
 use Rattle.pool.proofs.Stands.{Stands, Holds, nodes-are, stands-at}
 use Rattle.pool.proofs.Held.{slot-is-rec, tree-holds}
-use Rattle.pool.proofs.Bares.{start-is, bare-of}
+use Rattle.splice.proofs.Bares.{start-is}
+use Rattle.slots.proofs.Slots.{bare-of}
 use Rattle.search.specs.declared.Stop.{Stop}
 use Rattle.search.specs.declared.Descent.{Descent}
 use Rattle.search.specs.Landing.{Place, PlaceOf}
@@ -155,7 +156,7 @@ module _ {ws bs : List ℕ} {at : ℕ} (x : Found ws bs at) where
   found-holds : Holds ws bs (x .tree)
   found-holds = tree-holds ws bs (x .bytes) (x .tree) (x .is)
 
-  pub found-slot : (6 * at + 14 ≤ length ws) × (255 * at + 255 ≤ length bs)
+  pub found-slot : WordsIn ws at × RoomIn bs at
   found-slot =
       let h = found-holds in
       let l = place-within h (x .key) (x .stop) at (x .over) (x .above) (exact-slot (x .stop) (x .exact)) (x .place) in

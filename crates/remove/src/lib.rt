@@ -7,8 +7,8 @@ ghost use Rattle.pool.specs.Lent.{before, after};
 ghost use Rattle.pool.specs.Rule.{PoolRule};
 ghost use Rattle.remove.specs.Found.{Found};
 ghost use Rattle.remove.specs.Post.{RemoveAllows};
-use pool::splice::Stored;
 use search::Stop;
+use slots::put::Stored;
 use tree::Got;
 use tree::Slot;
 
@@ -19,10 +19,10 @@ fn take_number(labels: &mut [u8], words: &mut [u32], at: Slot) -> Got
       let was = before labels words
       ⌜ ((x : Found (was .words) (was .labels) (at .0)) → RemoveAllows (x .key) r was (after labels words)) ⌝ }
 {
-    match pool::splice::stored_at(words, at) {
+    match slots::put::stored_at(words, at) {
         Stored::Nothing => Got::NotFound,
         Stored::Number(v) => {
-            pool::alter::drop_number(words, at);
+            splice::alter::drop_number(words, at);
             tidy::tidy(labels, words, at);
             Got::Number(v)
         }

@@ -19,9 +19,9 @@ use Rattle.tree.specs.Context.{depth, plug}
 use Rattle.tree.proofs.Parts.{part-same, part-keyEnds, part-fork, strip-short, strip-fork}
 use Rattle.tree.proofs.Find.{look, findF, findT, above-none}
 use Rattle.tree.proofs.Looks.{looks-lt, looks-same, looks-keyEnds, looks-fork, find-here, find-nothing, get-is-find}
-use Rattle.pool.specs.Layout.{nodesOf, numAt, numOf}
+use Rattle.slots.specs.Layout.{WordsIn, nodesOf, numAt, numOf}
 use Rattle.pool.specs.Pool.{poolTree}
-use Rattle.pool.specs.Records.{nodeRec, rootRec}
+use Rattle.slots.specs.Records.{nodeRec, rootRec}
 use Rattle.pool.specs.Rule.{PoolRule}
 use Rattle.pool.proofs.Ruled.{rule-tree}
 use Rattle.pool.proofs.Answers.{no-rule, bytes-of}
@@ -254,7 +254,7 @@ module _ {ws bs key : List ℕ} {d : Descent} (w : Known ws bs key d) where
   place s e = subst (λ (x : Stop). PlaceOf tree key x (d .at .0) (d .parent .0) (d .above)) e (w .lands tree tree-is .place)
 
   -- the slot lies within the words
-  pub got-slot : (s : Stop) → d .stop ≡ s → AtSlot s → 6 * d .at .0 + 14 ≤ length ws
+  pub got-slot : (s : Stop) → d .stop ≡ s → AtSlot s → WordsIn ws (d .at .0)
   got-slot s e i = omega (arith, w .rule, place-within holds key s (d .at .0) (d .parent .0) (d .above) i (place s e))
 
   pub got-is : (s : Stop) → d .stop ≡ s → (told : Told) → told ≡ numberTold (gotAt s (numAt ws (d .at .0))) → told ≡ getCall (poolTree ws bs) key

@@ -12,7 +12,7 @@ use Rattle.tree.specs.Key.{Key, pick, common, keyEnds, fork, part}
 use Rattle.tree.specs.Search.{met}
 use Rattle.tree.proofs.Order.{less, even, more, cmp, cmp-refl}
 use Rattle.tree.proofs.Parts.{alike, inside, beyond, apart, parted}
-use Rattle.pool.specs.Layout.{numOf, lenOf, firstOf, labelOf}
+use Rattle.slots.specs.Layout.{bytesFor, numOf, lenOf, firstOf, labelOf}
 use Rattle.search.specs.declared.Meeting.{Meeting}
 use Rattle.search.specs.Landing.{meetingOf, InPool}
 
@@ -103,9 +103,9 @@ even-means a b h = elim (cmp a b) [ less i e ↦ cc | even i e ↦ i | more i e 
 
 -- A label that is not empty starts with its slot's first byte.
 label-starts : (ws bs : List ℕ) (c : ℕ) → InPool ws bs c → labelOf ws bs c ≡ firstOf bs c ∷ drop 1 (labelOf ws bs c)
-label-starts ws bs c i = go (lenOf ws c) (drop (255 * c) bs) (drop-cons bs (255 * c) 0 (omega (arith, i .labels))) (i .some)
+label-starts ws bs c i = go (lenOf ws c) (drop (bytesFor c) bs) (drop-cons bs (bytesFor c) 0 (omega (arith, i .labels))) (i .some)
   where
-    go : (m : ℕ) (s : List ℕ) → s ≡ firstOf bs c ∷ drop (suc (255 * c)) bs → 1 ≤ m → take m (take 255 s) ≡ firstOf bs c ∷ drop 1 (take m (take 255 s))
+    go : (m : ℕ) (s : List ℕ) → s ≡ firstOf bs c ∷ drop (suc (bytesFor c)) bs → 1 ≤ m → take m (take 255 s) ≡ firstOf bs c ∷ drop 1 (take m (take 255 s))
     go zero s e h = absurd (omega arith)
     go (suc m) s e h = rw e
 

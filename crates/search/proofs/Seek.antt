@@ -12,9 +12,9 @@ use Rattle.tree.specs.Search.{Look, inPart, whole, looksF, looksT, met, longest
 use Rattle.tree.specs.Context.{Context, top, down, over, plug, depth, Leads, before, parent, passed}
 use Rattle.tree.proofs.Parts.{part-same}
 use Rattle.tree.proofs.Looks.{looks-lt, looks-same, looks-keyEnds, looks-fork}
-use Rattle.pool.specs.Layout.{nodesOf, lenOf, spanOf, labelOf, numAt}
+use Rattle.slots.specs.Layout.{nodesOf, lenOf, spanOf, labelOf, numAt}
 use Rattle.pool.specs.Pool.{poolTree}
-use Rattle.pool.specs.Records.{nodeRec, rootRec}
+use Rattle.slots.specs.Records.{nodeRec, rootRec}
 use Rattle.pool.specs.Rule.{PoolRule}
 use Rattle.pool.proofs.Ruled.{rule-tree}
 use Rattle.pool.proofs.Stands.{Stands, Holds, nodes-are, stands-at}

@@ -9,7 +9,7 @@ use Rattle.tree.specs.Map.{Num}
 use Rattle.tree.specs.Tree.{Forest, node, Tree, Above, nodesF}
 use Rattle.tree.specs.Search.{longestT}
 use Rattle.tree.specs.Context.{Context, plug, depth, Leads, before, parent}
-use Rattle.pool.specs.Layout.{lenOf}
+use Rattle.slots.specs.Layout.{WordsIn, RoomIn, lenOf}
 use Rattle.search.specs.declared.Meeting.{Meeting}
 use Rattle.search.specs.declared.Stop.{Stop}
 use Rattle.search.specs.declared.Best.{Best}
@@ -17,8 +17,8 @@ use Rattle.search.specs.declared.Descent.{Descent}
 
 -- Slot c lies within the buffers, and its label is not empty and within its room.
 pub record InPool (ws bs : List ℕ) (c : ℕ) : Type 0 where
-  pub words : 6 * c + 14 ≤ length ws
-  pub labels : 255 * c + 255 ≤ length bs
+  pub words : WordsIn ws c
+  pub labels : RoomIn bs c
   pub some : 1 ≤ lenOf ws c
   pub short : lenOf ws c ≤ 255
 

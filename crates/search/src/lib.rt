@@ -8,7 +8,7 @@ ghost use Rattle.tree.specs.Search.{met};
 ghost use Rattle.tree.specs.Told.{gotTold};
 ghost use Rattle.tree.specs.Calls.{numberTold};
 ghost use mathlib.Core.Option.{some};
-ghost use Rattle.pool.specs.Layout.{labelOf, numAt};
+ghost use Rattle.slots.specs.Layout.{WordsIn, labelOf, numAt};
 ghost use Rattle.pool.specs.Pool.{poolTree};
 ghost use Rattle.pool.specs.Rule.{PoolRule};
 ghost use Rattle.pool.specs.Lent.{before};
@@ -72,12 +72,12 @@ fn meet(labels: &[u8], words: &[u32], c: Slot, key: &[u8], p: usize) -> Meeting
     requires { ⌜ InPool (now words) (now labels) (c .0) × (p < length (now key)) ⌝ }
     ensures { λ r. ⌜ r ≡ meetingOf (drop p (now (key .entry))) (labelOf (now (words .entry)) (now (labels .entry)) (c .0)) ⌝ }
 {
-    match label::cmp_first_item(key[p], pool::first_at(labels, c)) {
+    match label::cmp_first_item(key[p], slots::first_at(labels, c)) {
         First::Below => return Meeting::Before,
         First::Above => return Meeting::Past,
         First::Same => {}
     }
-    let label = pool::label_at(labels, words, c);
+    let label = slots::label_at(labels, words, c);
     let rest = &key[p..];
     let m = label::shared_length(rest, label);
     if m == label.len() {
@@ -94,13 +94,13 @@ fn meet(labels: &[u8], words: &[u32], c: Slot, key: &[u8], p: usize) -> Meeting
 
 // The longest stored prefix, once the label of slot c has matched whole and n bytes with it.
 fn best_at(words: &[u32], c: Slot, n: usize, best: Best) -> Best
-    requires { ⌜ 6 * c .0 + 14 ≤ length (now words) ⌝ }
+    requires { ⌜ WordsIn (now words) (c .0) ⌝ }
     ensures { λ r. ⌜ bestOf r ≡ met n (numAt (now (words .entry)) (c .0)) (bestOf best) ⌝ }
 {
-    if pool::has_at(words, c) == 0 {
+    if slots::has_at(words, c) == 0 {
         return best;
     }
-    Best::At(n, pool::number_at(words, c))
+    Best::At(n, slots::number_at(words, c))
 }
 
 // A descent by its parts.
@@ -121,7 +121,7 @@ pub fn descend(labels: &[u8], words: &[u32], key: &[u8]) -> Descent
     requires { ⌜ PoolRule (now words) (now labels) × (length (now key) ≤ keyMax) ⌝ }
     ensures { λ r. ⌜ ((t : Tree) → poolTree (now (words .entry)) (now (labels .entry)) ≡ some t → Lands t (now (key .entry)) r) ⌝ }
 {
-    let n = pool::nodes_in(words);
+    let n = slots::nodes_in(words);
     let mut best = best_at(words, Slot(0), 0, Best::None);
     if key.len() == 0 {
         return landed(Stop::Root, Slot(0), Slot(0), 0, best);
@@ -133,7 +133,7 @@ pub fn descend(labels: &[u8], words: &[u32], key: &[u8]) -> Descent
     while c < end {
         match meet(labels, words, Slot(c), key, p) {
             Meeting::Before => return landed(Stop::Gap, Slot(c), parent, p, best),
-            Meeting::Past => c += pool::span_at(words, Slot(c)),
+            Meeting::Past => c += slots::span_at(words, Slot(c)),
             Meeting::Same => {
                 best = best_at(words, Slot(c), key.len(), best);
                 return landed(Stop::Same, Slot(c), parent, p, best);
@@ -145,7 +145,7 @@ pub fn descend(labels: &[u8], words: &[u32], key: &[u8]) -> Descent
             Meeting::Through(m) => {
                 best = best_at(words, Slot(c), p + m, best);
                 parent = Slot(c);
-                end = c + pool::span_at(words, Slot(c));
+                end = c + slots::span_at(words, Slot(c));
                 p += m;
                 c += 1;
             }
@@ -156,13 +156,13 @@ pub fn descend(labels: &[u8], words: &[u32], key: &[u8]) -> Descent
 
 // The number at a slot.
 fn number_in(words: &[u32], at: Slot) -> Got
-    requires { ⌜ 6 * at .0 + 14 ≤ length (now words) ⌝ }
+    requires { ⌜ WordsIn (now words) (at .0) ⌝ }
     ensures { λ r. ⌜ gotTold r ≡ numberTold (numAt (now (words .entry)) (at .0)) ⌝ }
 {
-    if pool::has_at(words, at) == 0 {
+    if slots::has_at(words, at) == 0 {
         return Got::NotFound;
     }
-    Got::Number(pool::number_at(words, at))
+    Got::Number(slots::number_at(words, at))
 }
 
 // `get` in a pool that has been tested, of a key that is not too long.

@@ -19,7 +19,7 @@ use Rattle.tree.proofs.Parts.{part-same, part-keyEnds, part-fork}
 use Rattle.tree.proofs.SplitFind.{detachF-lt, detachF-same, detachF-keyEnds, detachF-fork, leaveF-same, leaveF-keyEnds}
 use Rattle.tree.proofs.SplitWf.{split-wf}
 use Rattle.tree.proofs.Context.{detach-plug, leave-plug}
-use Rattle.pool.specs.Layout.{nodesOf, startOf, lenOf, spanOf}
+use Rattle.slots.specs.Layout.{WordsIn, nodesOf, startOf, lenOf, spanOf}
 use Rattle.pool.specs.Pool.{poolTree, slotsOf}
 use Rattle.pool.specs.Rule.{Within, Lengths, PoolRule}
 use Rattle.pool.specs.Fields.{emptied}
@@ -28,7 +28,7 @@ use Rattle.pool.proofs.Sums.{emptied-tree, emptied-slots}
 use Rattle.pool.proofs.Answers.{no-rule}
 use Rattle.pool.proofs.Ruled.{rule-tree}
 use Rattle.pool.proofs.Stands.{Stands, Holds, nodes-are, stands-at}
-use Rattle.pool.specs.Records.{nodeRec}
+use Rattle.slots.specs.Records.{nodeRec}
 use Rattle.pool.proofs.Held.{slot-is-rec, tree-holds}
 use Rattle.search.specs.declared.Stop.{Stop}
 use Rattle.search.specs.declared.Descent.{Descent}
@@ -77,7 +77,7 @@ module _ {ws bs ws₂ bs₂ : List ℕ} {slots : ℕ} (x : Landed ws bs Stop.Roo
   pub root-ready : Detachable ws bs 0
   root-ready = spot-detachable root-holds (root-spot root-holds)
 
-  pub root-nodes : (1 ≤ length ws) × (14 ≤ length ws) × (spanOf ws 0 ≡ nodesOf ws)
+  pub root-nodes : (1 ≤ length ws) × WordsIn ws 0 × (spanOf ws 0 ≡ nodesOf ws)
   root-nodes =
       let h = root-holds in
       omega (arith, h .lengths .least, h .lengths .words, root-spot h .span, h .nodes, nodes-are (x .tree))
@@ -194,7 +194,7 @@ module _ {ws bs : List ℕ} {at over : ℕ} (x : Landed ws bs Stop.Same at over)
   pub same-ready : Detachable ws bs at
   same-ready = spot-detachable same-holds (same-landing .spot)
 
-  pub same-slot : (6 * at + 14 ≤ length ws)
+  pub same-slot : WordsIn ws at
   same-slot = omega (arith, same-landing .spot .within, same-holds .nodes, same-holds .room, same-holds .lengths .words)
 
   pub same-leaves : Leaving ws bs at over
@@ -292,7 +292,7 @@ module _ {ws bs : List ℕ} {m at over : ℕ} (x : Landed ws bs (Stop.Inside m) 
         omega (arith, s .bytes, slot-is-rec ws bs at (nodeRec (s .s) (s .b) (s .q ++ s .y ∷ s .l) (s .num) (nodesF (s .kids))) (s .stands .0) .len, length-append (s .q) (s .y ∷ s .l)),
       )
 
-  pub inside-slot : (6 * at + 14 ≤ length ws)
+  pub inside-slot : WordsIn ws at
   inside-slot = omega (arith, inside-landing .spot .within, inside-holds .nodes, inside-holds .room, inside-holds .lengths .words)
 
   pub inside-leaves : Leaving ws bs at over

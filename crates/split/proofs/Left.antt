@@ -8,14 +8,16 @@ use lib.ListN.{length}
 use Rattle.tree.specs.Tree.{Forest, node, Tree, nodesF}
 use Rattle.tree.specs.Context.{Context, plug, depth, before, parent}
 use Rattle.label.proofs.Moves.{by-lt}
-use Rattle.pool.specs.Layout.{nodesOf, startOf, lenOf, spanOf}
-use Rattle.pool.specs.Records.{nodeRec, rootRec, run}
-use Rattle.pool.specs.Splice.{Bare, bareAt, baresFrom, rootBare, solid}
-use Rattle.pool.specs.Altered.{gapOf, Emptied}
+use Rattle.slots.specs.Layout.{wordsFor, bytesFor, WordsIn, nodesOf, startOf, lenOf, spanOf}
+use Rattle.slots.specs.Records.{nodeRec, rootRec, run}
+use Rattle.slots.specs.Bare.{Bare, bareAt, baresFrom, rootBare}
+use Rattle.splice.specs.Splice.{solid}
+use Rattle.splice.specs.Altered.{gapOf, Emptied}
 use Rattle.pool.proofs.Stands.{Stands, Holds, nodes-are}
 use Rattle.pool.proofs.Held.{slot-is-rec, tree-holds}
-use Rattle.pool.proofs.Bares.{start-is, len-is, bare-of}
-use Rattle.pool.proofs.Gaps.{solid-gap}
+use Rattle.splice.proofs.Bares.{start-is, len-is}
+use Rattle.slots.proofs.Slots.{bare-of}
+use Rattle.splice.proofs.Gaps.{solid-gap}
 use Rattle.search.proofs.Places.{plug-stands, plug-nodes, nodes-node}
 use Rattle.tidy.specs.Sparse.{Hollow, Sparse, gap}
 use Rattle.tidy.specs.Climb.{Kept, Stage, Climbing, Tidied}
@@ -76,11 +78,11 @@ module _ {ws bs : List ℕ} {at over : ℕ} (x : Leaving ws bs at over) where
   cut-within : before (x .context) + nodesF cut ≤ nodesOf ws
   cut-within = omega (arith, plug-nodes (x .context) cut, ap nodesF (x .place), all-nodes)
 
-  room : 255 * nodesOf ws ≤ length bs
+  room : bytesFor (nodesOf ws) ≤ length bs
   room = omega (arith, leave-holds .nodes, leave-holds .room, leave-holds .lengths .labels)
 
   -- what the code asks of the slot
-  pub leave-bounds : (6 * at + 14 ≤ length ws) × (6 * (at + spanOf ws at) + 8 ≤ length ws) × (255 * (at + spanOf ws at) ≤ length bs)
+  pub leave-bounds : WordsIn ws at × (wordsFor (at + spanOf ws at) ≤ length ws) × (bytesFor (at + spanOf ws at) ≤ length bs)
   leave-bounds =
       let h = leave-holds in
       omega (arith, x .at-is, cut-within, cut-nodes, cut-span, ap (spanOf ws) (x .at-is), room, h .nodes, h .room, h .lengths .words)

@@ -8,14 +8,14 @@ use lib.ListN.{length, getD, set, take, drop, length-set, length-take, length-dr
 use lib.Seq.{getD-set-same, take-all}
 use Rattle.tree.specs.Tree.{keysW}
 use Rattle.label.proofs.Moves.{by-lt, by-eq}
-use Rattle.pool.specs.Layout.{startOf, lenOf, hasOf, numberOf, spanOf, labelOf, numOf, numAt}
-use Rattle.pool.specs.Records.{Rec, recAt, rootRec}
-use Rattle.pool.specs.Put.{recOf, WordsPut, SlotPut}
+use Rattle.slots.specs.Layout.{nodesWord, WordsIn, startOf, lenOf, hasOf, numberOf, spanOf, labelOf, numOf, numAt}
+use Rattle.slots.specs.Records.{Rec, recAt, rootRec}
+use Rattle.slots.specs.Put.{recOf, wordsPut, WordsPut, SlotPut}
 use Rattle.pool.specs.Rule.{Within}
-use Rattle.pool.specs.declared.put.Head.{Head}
-use Rattle.pool.proofs.Cuts.{label-length}
+use Rattle.slots.specs.declared.put.Head.{Head}
+use Rattle.slots.proofs.Cuts.{label-length}
 use Rattle.pool.proofs.Held.{num-has}
-use Rattle.pool.proofs.Puts.{rec-same, nodes-put}
+use Rattle.slots.proofs.Puts.{words-put, rec-same, nodes-put}
 use Rattle.split.specs.Lift.{carried, lowered, topped, Liftable, Lifted, Rooted, Detached, DetachedBelow}
 use Rattle.split.specs.Halved.{Detachable}
 
@@ -68,9 +68,10 @@ root-rec ws us bs has number nodes h s n a v p w =
     rw (w₀, w₁, w₂, w₃, w₄)
 
 -- The root written, and the slots in use counted
-pub rooted : (ws us vs : List ℕ) (has number nodes : ℕ) (h : Head) → 14 ≤ length ws → h .start ≡ 0 → h .len ≡ 0 → h .has ≡ has → h .number .0 ≡ number → h .span ≡ nodes → WordsPut ws us 0 h
-    → vs ≡ set us 0 nodes → Rooted ws vs has number nodes
-rooted ws us vs has number nodes h l s n a v p w e =
+pub rooted : (ws us vs : List ℕ) (has number nodes : ℕ) (h : Head) → WordsIn ws 0 → h .start ≡ 0 → h .len ≡ 0 → h .has ≡ has → h .number .0 ≡ number → h .span ≡ nodes
+    → us ≡ wordsPut ws 0 h → vs ≡ set us nodesWord nodes → Rooted ws vs has number nodes
+rooted ws us vs has number nodes h l s n a v p put e =
+    let w = words-put ws us 0 h l put in
     let size : length us ≡ length ws = w .size in
     record {
       len = ap length e ∙ length-set us 0 nodes ∙ size;

@@ -10,8 +10,8 @@ use Rattle.tree.specs.Key.{Key, keyMax}
 use Rattle.tree.specs.Map.{Num}
 use Rattle.tree.specs.Tree.{Forest, nil, node, Tree, Wf, room, nodesF, nodesT, keysW, WellFormed}
 use Rattle.label.proofs.Moves.{by-lt, by-eq}
-use Rattle.pool.specs.Layout.{nodesOf, startOf, lenOf, hasOf, spanOf, numAt}
-use Rattle.pool.specs.Records.{Rec, recAt, nodeRec, rootRec}
+use Rattle.slots.specs.Layout.{nodesOf, startOf, lenOf, hasOf, spanOf, numAt}
+use Rattle.slots.specs.Records.{Rec, recAt, nodeRec, rootRec}
 use Rattle.pool.specs.Pool.{poolTree}
 use Rattle.pool.specs.Rule.{Within, Lengths}
 use Rattle.pool.proofs.Decode.{lengths-stay}

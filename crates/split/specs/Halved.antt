@@ -8,7 +8,7 @@ use Rattle.tree.specs.Key.{Key, Bytes, keyMax}
 use Rattle.tree.specs.Map.{Num}
 use Rattle.tree.specs.Tree.{Forest, node, Tree, WellFormed}
 use Rattle.tree.specs.Context.{Context, plug, before, parent, settled}
-use Rattle.pool.specs.Layout.{startOf, lenOf, hasOf, spanOf}
+use Rattle.slots.specs.Layout.{startOf, lenOf, hasOf, spanOf}
 use Rattle.pool.specs.Pool.{poolTree}
 use Rattle.search.specs.declared.Stop.{Stop}
 use Rattle.search.specs.Landing.{PlaceOf}

@@ -10,8 +10,8 @@ use Rattle.tree.specs.Map.{Num}
 use Rattle.tree.specs.Tree.{Tree}
 use Rattle.tree.specs.Told.{Told}
 use Rattle.tree.specs.Calls.{SplitOutcome, refusesBoth, leavesBoth}
-use Rattle.pool.specs.Layout.{nodesOf, startOf, lenOf, hasOf, spanOf, numOf, numAt}
-use Rattle.pool.specs.Records.{Rec, recAt, rootRec}
+use Rattle.slots.specs.Layout.{nodesOf, startOf, lenOf, hasOf, spanOf, numOf, numAt}
+use Rattle.slots.specs.Records.{Rec, recAt, rootRec}
 use Rattle.pool.specs.Pool.{poolTree, slotsOf}
 use Rattle.pool.specs.Rule.{Within}
 

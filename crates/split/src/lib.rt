@@ -4,9 +4,9 @@ ghost use mathlib.Core.Path.{_≡_};
 ghost use Prim.Native.Nat.{ℕ, _+_, _*_, _-_, _≤_, _<_};
 ghost use lib.ListN.{length};
 ghost use Rattle.tree.specs.Key.{keyMax};
-ghost use Rattle.pool.specs.Layout.{startOf, lenOf, spanOf};
-ghost use Rattle.pool.specs.Records.{recAt};
-ghost use Rattle.pool.specs.Put.{SlotPut};
+ghost use Rattle.slots.specs.Layout.{WordsIn, startOf, lenOf, spanOf};
+ghost use Rattle.slots.specs.Records.{recAt};
+ghost use Rattle.slots.specs.Put.{SlotPut};
 ghost use Rattle.pool.specs.Lent.{before, after};
 ghost use Rattle.pool.specs.Rule.{Within, Lengths, PoolRule};
 ghost use Rattle.search.specs.declared.Stop.{Stop};
@@ -15,8 +15,8 @@ ghost use Rattle.split.specs.Halved.{Landed, Detachable, Leaving};
 ghost use Rattle.split.specs.Post.{SplitAllows};
 ghost use Rattle.tidy.specs.Climb.{Tidied};
 use pool::Sized;
-use pool::put::Head;
 use search::Stop;
+use slots::put::Head;
 use tree::Divided;
 use tree::RuleNo;
 use tree::Slot;
@@ -32,18 +32,18 @@ fn carry(
     words2: &mut [u32],
     to: Slot,
 )
-    requires { ⌜ (6 * from .0 + 14 ≤ length (now words)) × (start < 4294967296) × (length (now label) ≤ 255) ⌝ }
+    requires { ⌜ WordsIn (now words) (from .0) × (start < 4294967296) × (length (now label) ≤ 255) ⌝ }
     requires { ⌜ Within (now words2) (now labels2) (to .0 + 1) ⌝ }
     ensures { λ _. ⌜ SlotPut (now (words2 .entry)) (now (labels2 .entry)) (now (words2 .exit)) (now (labels2 .exit)) (to .0) (carried (now (words .entry)) (from .0) start (now (label .entry))) ⌝ }
 {
     let head = Head {
         start: start as u32,
         len: label.len() as u32,
-        has: pool::has_at(words, from) as u32,
-        number: pool::number_at(words, from),
-        span: pool::span_at(words, from) as u32,
+        has: slots::has_at(words, from) as u32,
+        number: slots::number_at(words, from),
+        span: slots::span_at(words, from) as u32,
     };
-    pool::put::put_slot(labels2, words2, to, head, label);
+    slots::put::put_slot(labels2, words2, to, head, label);
 }
 
 // Carries one slot over, under a path that is `base` bytes shorter.
@@ -60,8 +60,8 @@ fn lift_slot(
     requires { ⌜ Within (now words2) (now labels2) (to .0 + 1) ⌝ }
     ensures { λ _. ⌜ SlotPut (now (words2 .entry)) (now (labels2 .entry)) (now (words2 .exit)) (now (labels2 .exit)) (to .0) (lowered base (recAt (now (words .entry)) (now (labels .entry)) (from .0))) ⌝ }
 {
-    let start = pool::start_at(words, from) - base;
-    let label = pool::label_at(labels, words, from);
+    let start = slots::start_at(words, from) - base;
+    let label = slots::label_at(labels, words, from);
     carry(words, from, start, label, labels2, words2, to);
 }
 
@@ -98,7 +98,7 @@ fn lift(
 
 // Writes the root, and how many slots are in use.
 fn put_root(words: &mut [u32], has: u32, number: RuleNo, nodes: usize)
-    requires { ⌜ (14 ≤ length (now words)) × (nodes < 4294967296) ⌝ }
+    requires { ⌜ WordsIn (now words) 0 × (nodes < 4294967296) ⌝ }
     ensures { λ _. ⌜ Rooted (now (words .entry)) (now (words .exit)) has (number .0) nodes ⌝ }
 {
     let head = Head {
@@ -108,8 +108,8 @@ fn put_root(words: &mut [u32], has: u32, number: RuleNo, nodes: usize)
         number,
         span: nodes as u32,
     };
-    pool::put::put_words(words, Slot(0), head);
-    pool::put::put_nodes(words, nodes as u32);
+    slots::put::put_words(words, Slot(0), head);
+    slots::set_nodes(words, nodes as u32);
 }
 
 // Carries the subtree of a slot over, with the slot as the root.
@@ -117,8 +117,8 @@ fn detach_node(labels: &[u8], words: &[u32], at: Slot, labels2: &mut [u8], words
     requires { ⌜ Detachable (now words) (now labels) (at .0) × Within (now words2) (now labels2) (spanOf (now words) (at .0)) ⌝ }
     ensures { λ _. ⌜ Detached (now (words .entry)) (now (labels .entry)) (now (words2 .entry)) (now (labels2 .entry)) (now (words2 .exit)) (now (labels2 .exit)) (at .0) (startOf (now (words .entry)) (at .0) + lenOf (now (words .entry)) (at .0)) ⌝ }
 {
-    let span = pool::span_at(words, at);
-    let base = pool::start_at(words, at) + pool::len_at(words, at);
+    let span = slots::span_at(words, at);
+    let base = slots::start_at(words, at) + slots::len_at(words, at);
     let first = at.0 + 1;
     lift(
         labels,
@@ -130,8 +130,8 @@ fn detach_node(labels: &[u8], words: &[u32], at: Slot, labels2: &mut [u8], words
         words2,
         Slot(1),
     );
-    let has = pool::has_at(words, at) as u32;
-    put_root(words2, has, pool::number_at(words, at), span);
+    let has = slots::has_at(words, at) as u32;
+    put_root(words2, has, slots::number_at(words, at), span);
 }
 
 // Carries over what is left of a slot's label behind its first m bytes, as the top of a tree.
@@ -146,7 +146,7 @@ fn top_slot(
     requires { ⌜ Within (now words) (now labels) (at .0 + 1) × (m ≤ lenOf (now words) (at .0)) × (lenOf (now words) (at .0) ≤ 255) × Within (now words2) (now labels2) 2 ⌝ }
     ensures { λ _. ⌜ SlotPut (now (words2 .entry)) (now (labels2 .entry)) (now (words2 .exit)) (now (labels2 .exit)) 1 (topped m (recAt (now (words .entry)) (now (labels .entry)) (at .0))) ⌝ }
 {
-    let label = pool::label_at(labels, words, at);
+    let label = slots::label_at(labels, words, at);
     carry(words, at, 0, &label[m..], labels2, words2, Slot(1));
 }
 
@@ -162,8 +162,8 @@ fn detach_label(
     requires { ⌜ Detachable (now words) (now labels) (at .0) × (m ≤ lenOf (now words) (at .0)) × Within (now words2) (now labels2) (spanOf (now words) (at .0) + 1) ⌝ }
     ensures { λ _. ⌜ DetachedBelow (now (words .entry)) (now (labels .entry)) (now (words2 .entry)) (now (labels2 .entry)) (now (words2 .exit)) (now (labels2 .exit)) (at .0) m (startOf (now (words .entry)) (at .0) + m) ⌝ }
 {
-    let span = pool::span_at(words, at);
-    let base = pool::start_at(words, at) + m;
+    let span = slots::span_at(words, at);
+    let base = slots::start_at(words, at) + m;
     let first = at.0 + 1;
     lift(
         labels,
@@ -184,8 +184,8 @@ fn leave(labels: &mut [u8], words: &mut [u32], at: Slot, parent: Slot)
     requires { ⌜ Leaving (now words) (now labels) (at .0) (parent .0) ⌝ }
     ensures { λ _. ⌜ ((x : Leaving (now (words .entry)) (now (labels .entry)) (at .0) (parent .0)) → Tidied (now (words .entry)) (now (labels .entry)) (now (words .exit)) (now (labels .exit)) (x .left)) ⌝ }
 {
-    let end = at.0 + pool::span_at(words, at);
-    pool::alter::open_gaps(words, at, Slot(end));
+    let end = at.0 + slots::span_at(words, at);
+    splice::alter::open_gaps(words, at, Slot(end));
     tidy::tidy(labels, words, parent);
 }
 
@@ -204,7 +204,7 @@ fn split_root(
       ⌜ ((x : Landed (was .words) (was .labels) Stop.Root 0 0)
           → SplitAllows (x .prefix) r was was₂ (after labels words) (after labels2 words2)) ⌝ }
 {
-    if pool::nodes_in(words) > room {
+    if slots::nodes_in(words) > room {
         return Divided::NoRoom;
     }
     detach_node(labels, words, Slot(0), labels2, words2);
@@ -229,7 +229,7 @@ fn split_node(
       ⌜ ((x : Landed (was .words) (was .labels) Stop.Same (at .0) (parent .0))
           → SplitAllows (x .prefix) r was was₂ (after labels words) (after labels2 words2)) ⌝ }
 {
-    if pool::span_at(words, at) > room {
+    if slots::span_at(words, at) > room {
         return Divided::NoRoom;
     }
     detach_node(labels, words, at, labels2, words2);
@@ -255,7 +255,7 @@ fn split_label(
       ⌜ ((x : Landed (was .words) (was .labels) (Stop.Inside m) (at .0) (parent .0))
           → SplitAllows (x .prefix) r was was₂ (after labels words) (after labels2 words2)) ⌝ }
 {
-    if pool::span_at(words, at) >= room {
+    if slots::span_at(words, at) >= room {
         return Divided::NoRoom;
     }
     detach_label(labels, words, at, m, labels2, words2);

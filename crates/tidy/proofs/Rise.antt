@@ -13,12 +13,12 @@ use Rattle.tree.specs.Tree.{Forest, nil, node, Tree, nodesF, nodesT}
 use Rattle.tree.specs.Remove.{settle}
 use Rattle.tree.specs.Context.{Context, top, down, over, plug, depth, before, parent, settled}
 use Rattle.label.proofs.Moves.{by-lt, by-eq}
-use Rattle.pool.specs.Layout.{nodesOf, startOf, lenOf, spanOf}
-use Rattle.pool.specs.Records.{nodeRec}
-use Rattle.pool.specs.Splice.{bareAt, nodeBare}
+use Rattle.slots.specs.Layout.{bytesFor, RoomIn, nodesOf, startOf, lenOf, spanOf}
+use Rattle.slots.specs.Records.{nodeRec}
+use Rattle.slots.specs.Bare.{bareAt, nodeBare}
 use Rattle.pool.proofs.Stands.{Stands, Holds, nodes-are, stands-at}
 use Rattle.pool.proofs.Held.{slot-is-rec}
-use Rattle.pool.proofs.Bares.{start-is}
+use Rattle.splice.proofs.Bares.{start-is}
 use Rattle.search.proofs.Places.{plug-stands, plug-nodes, nodes-node}
 use Rattle.tidy.specs.Sparse.{Sparse, full, Ripe, Ready, Inside, NodeSettled, Parent}
 use Rattle.tidy.specs.Climb.{Kept, Site, Way, reached, rising, Stage, Climbing}
@@ -118,14 +118,14 @@ module _ (ws bs : List ℕ) where
 -- The forest f₀ of the tree has become g in its slots; outside of them nothing has changed.
 pub record Changed (ws bs us ds : List ℕ) (C : Context) (f₀ g : Forest) : Type 0 where
   pub now : Sparse us ds (depth C) (before C + nodesF f₀) g (before C)
-  pub ahead : (i : ℕ) → i < before C → 255 * i + 255 ≤ length bs → bareAt us ds i ≡ bareAt ws bs i
-  pub behind : (i : ℕ) → before C + nodesF f₀ ≤ i → 255 * i + 255 ≤ length bs → bareAt us ds i ≡ bareAt ws bs i
+  pub ahead : (i : ℕ) → i < before C → RoomIn bs i → bareAt us ds i ≡ bareAt ws bs i
+  pub behind : (i : ℕ) → before C + nodesF f₀ ≤ i → RoomIn bs i → bareAt us ds i ≡ bareAt ws bs i
 
 -- Then its parent is next.
-module _ (ws bs us ds : List ℕ) (spans : (i : ℕ) → spanOf us i ≡ spanOf ws i) (kids final : Forest) (count : nodesOf ws ≡ suc (nodesF kids)) (room : 255 * nodesOf ws ≤ length bs)
+module _ (ws bs us ds : List ℕ) (spans : (i : ℕ) → spanOf us i ≡ spanOf ws i) (kids final : Forest) (count : nodesOf ws ≡ suc (nodesF kids)) (room : bytesFor (nodesOf ws) ≤ length bs)
     (st : Stands ws bs 0 kids 1) where
   -- there is room for the slots of a forest of the tree
-  in-room : (C : Context) (f : Forest) → kids ≡ plug C f → 255 * (before C + nodesF f) ≤ length bs
+  in-room : (C : Context) (f : Forest) → kids ≡ plug C f → bytesFor (before C + nodesF f) ≤ length bs
   in-room C f e = omega (arith, plug-nodes C f, ap nodesF e)
 
   pub rise : (C : Context) (f₀ g : Forest) → kids ≡ plug C f₀ → settled C g ≡ final → Changed ws bs us ds C f₀ g → Way ws bs us ds kids final (parent C)

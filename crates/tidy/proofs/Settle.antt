@@ -13,12 +13,13 @@ use Rattle.tree.specs.Tree.{Forest, nil, node, room, keysW}
 use Rattle.tree.specs.Remove.{joins, settle}
 use Rattle.tree.specs.declared.Slot.{Slot}
 use Rattle.label.proofs.Moves.{by-lt, by-eq}
-use Rattle.pool.specs.Layout.{startOf, lenOf, hasOf, spanOf, numAt}
-use Rattle.pool.specs.Splice.{Bare, bareAt, baresFrom, nodeBare, baresF, bareOf, solid, Filled}
-use Rattle.pool.specs.Altered.{gapOf, joinOf, Altered, Joinable}
-use Rattle.pool.proofs.Runs.{run-ext}
-use Rattle.pool.proofs.Gaps.{solid-gap}
-use Rattle.pool.proofs.Bares.{start-is, len-is}
+use Rattle.slots.specs.Layout.{bytesFor, startOf, lenOf, hasOf, spanOf, numAt}
+use Rattle.slots.specs.Bare.{Bare, bareAt, baresFrom, nodeBare, baresF, bareOf, Filled}
+use Rattle.splice.specs.Splice.{solid}
+use Rattle.splice.specs.Altered.{gapOf, joinOf, Altered, Joinable}
+use Rattle.slots.proofs.Runs.{run-ext}
+use Rattle.splice.proofs.Gaps.{solid-gap}
+use Rattle.splice.proofs.Bares.{start-is, len-is}
 use Rattle.tidy.specs.Sparse.{Hollow, Solid, Sparse, ended, gap, full, Hops, Next, Ripe, Ready, Childless, OnlyChild, Several, KidsAre, Below, Inside, NodeSettled}
 use Rattle.tidy.specs.declared.Kids.{Kids}
 use Rattle.tidy.proofs.Sparse.{solid-parts, solid-first, solid-none, sparse-within, sparse-hops, sparse-solid, sparse-end, Begun, sparse-begun, hops-on}
@@ -194,7 +195,7 @@ module _ {ws bs : List ℕ} {c s b : ℕ} {l : Key} {kids : Forest} where
       stays ripe (λ rest. rw (k .is) (settle-two b l (k .b₁) (k .l₁) (k .w₁) (k .below₁) (k .b₂) (k .l₂) (k .w₂) (k .below₂) (k .rest) rest))
 
   -- With neither number nor child it goes.
-  pub childless-goes : (vs : List ℕ) → Ripe ws bs c s b l none kids → 255 * (c + spanOf ws c) ≤ length bs → Childless ws bs c kids → Altered ws bs vs bs c (gapOf (bareAt ws bs c))
+  pub childless-goes : (vs : List ℕ) → Ripe ws bs c s b l none kids → bytesFor (c + spanOf ws c) ≤ length bs → Childless ws bs c kids → Altered ws bs vs bs c (gapOf (bareAt ws bs c))
       → NodeSettled ws bs vs bs c s b l none kids
   childless-goes vs ripe inB k a =
       let f = a .filled in
@@ -227,7 +228,7 @@ module _ {ws bs : List ℕ} {c s b : ℕ} {l : Key} {kids : Forest} where
     long-stays h =
         stays ripe (λ rest. rw (k .is) (settle-long b l (k .b) (k .l) (k .w) (k .below) rest (omega (arith, len-here, len-child))))
 
-    module _ (inB : 255 * (c + spanOf ws c) ≤ length bs) (vs cs us : List ℕ) (short : lenOf ws c + lenOf ws i ≤ 255)
+    module _ (inB : bytesFor (c + spanOf ws c) ≤ length bs) (vs cs us : List ℕ) (short : lenOf ws c + lenOf ws i ≤ 255)
         (j : Altered ws bs vs cs c (joinOf (bareAt ws bs c) (bareAt ws bs i))) (g : Altered vs cs us cs i (gapOf (bareAt vs cs i))) where
       spans-are : (x : ℕ) → spanOf us x ≡ spanOf ws x
       spans-are x = g .spans x ∙ j .spans x

@@ -7,14 +7,15 @@ use lib.ListN.{length}
 use Rattle.tree.specs.Key.{Key}
 use Rattle.tree.specs.Map.{Num}
 use Rattle.tree.specs.Tree.{Forest, nil, node, nodesF}
-use Rattle.pool.specs.Layout.{startOf, lenOf, spanOf}
-use Rattle.pool.specs.Records.{run, nodeRec}
-use Rattle.pool.specs.Splice.{Bare, bareAt, baresFrom, nodeBare, baresF, solid}
-use Rattle.pool.proofs.Runs.{run-cons, run-join, run-ext}
+use Rattle.slots.specs.Layout.{startOf, lenOf, spanOf}
+use Rattle.slots.specs.Records.{run, nodeRec}
+use Rattle.slots.specs.Bare.{Bare, bareAt, baresFrom, nodeBare, baresF}
+use Rattle.splice.specs.Splice.{solid}
+use Rattle.slots.proofs.Runs.{run-cons, run-join, run-ext}
 use Rattle.pool.proofs.Stands.{Stands}
 use Rattle.pool.proofs.Held.{slot-is-rec}
-use Rattle.pool.proofs.Bares.{stands-bares, node-bares, len-is}
-use Rattle.pool.proofs.Gaps.{solid-append, solid-gap, solid-kept, solid-forest}
+use Rattle.splice.proofs.Bares.{stands-bares, node-bares, len-is}
+use Rattle.splice.proofs.Gaps.{solid-append, solid-gap, solid-kept, solid-forest}
 use Rattle.tidy.specs.Sparse.{Hollow, Solid, Sparse, ended, gap, full, Hops, there, hop, Next}
 
 -- Slots one after another, in two parts

@@ -11,16 +11,17 @@ use Rattle.tree.specs.Tree.{Forest, node, Tree, nodesF, nodesT, WellFormed}
 use Rattle.tree.specs.Remove.{settle}
 use Rattle.tree.specs.Context.{Context, plug, depth, before, parent}
 use Rattle.label.proofs.Moves.{by-eq}
-use Rattle.pool.specs.Layout.{nodesOf, startOf, spanOf}
-use Rattle.pool.specs.Records.{nodeRec}
+use Rattle.slots.specs.Layout.{wordsFor, bytesFor, nodesOf, startOf, spanOf}
+use Rattle.slots.specs.Records.{nodeRec}
 use Rattle.pool.specs.Pool.{poolTree}
-use Rattle.pool.specs.Splice.{Bare, bareAt, baresFrom, baresF, rootBare, baresT, solid, Linked, Settled, Closed}
-use Rattle.pool.specs.Altered.{Altered}
+use Rattle.slots.specs.Bare.{Bare, bareAt, baresFrom, baresF, rootBare, baresT}
+use Rattle.splice.specs.Splice.{solid, Linked, Settled, Closed}
+use Rattle.splice.specs.Altered.{Altered}
 use Rattle.pool.proofs.Decode.{lengths-stay}
-use Rattle.pool.proofs.Runs.{run-cons, run-length, run-ext}
+use Rattle.slots.proofs.Runs.{run-cons, run-length, run-ext}
 use Rattle.pool.proofs.Stands.{Stands, Holds, nodes-are, stands-at}
 use Rattle.pool.proofs.Held.{slot-is-rec, tree-holds}
-use Rattle.pool.proofs.Bares.{start-is, baresF-length, whole-tree}
+use Rattle.splice.proofs.Bares.{start-is, baresF-length, whole-tree}
 use Rattle.search.proofs.Places.{plug-stands, plug-nodes, nodes-node}
 use Rattle.tidy.specs.Sparse.{Sparse, Ripe, Ready, Inside, NodeSettled, Parent}
 use Rattle.tidy.specs.Climb.{Kept, Site, Way, reached, rising, Stage, Climbing, Tidied}
@@ -56,7 +57,7 @@ kept-then k i =
     }
 
 module _ {ws bs : List ℕ} {t : Tree} (h : Holds ws bs t) where
-  room : 255 * nodesOf ws ≤ length bs
+  room : bytesFor (nodesOf ws) ≤ length bs
   room = omega (arith, h .nodes, h .room, h .lengths .labels)
 
   count : nodesOf ws ≡ suc (nodesF (t .kids))
@@ -247,8 +248,8 @@ module _ {ws bs : List ℕ} {t final : Tree} {vs cs us ds es : List ℕ} {n r : 
 pub record Bounds (vs cs : List ℕ) : Type 0 where
   pub least : 1 ≤ nodesOf vs
   pub most : nodesOf vs ≤ 16384
-  pub words : 6 * nodesOf vs + 8 ≤ length vs
-  pub labels : 255 * nodesOf vs ≤ length cs
+  pub words : wordsFor (nodesOf vs) ≤ length vs
+  pub labels : bytesFor (nodesOf vs) ≤ length cs
 
 pub climbed-bounds : {ws bs : List ℕ} {t final : Tree} {vs cs : List ℕ} → Holds ws bs t → Stage ws bs t final vs cs 0 → Bounds vs cs
 climbed-bounds {ws} {bs} {t} h g =

@@ -9,9 +9,9 @@ use Rattle.tree.specs.Map.{Num}
 use Rattle.tree.specs.Tree.{Forest, node, Tree, WellFormed}
 use Rattle.tree.specs.Remove.{settle}
 use Rattle.tree.specs.Context.{Context, plug, depth, before, settled}
-use Rattle.pool.specs.Layout.{nodesOf, startOf, spanOf}
+use Rattle.slots.specs.Layout.{RoomIn, nodesOf, startOf, spanOf}
 use Rattle.pool.specs.Pool.{poolTree}
-use Rattle.pool.specs.Splice.{bareAt, rootBare}
+use Rattle.slots.specs.Bare.{bareAt, rootBare}
 use Rattle.tidy.specs.Sparse.{Sparse, Ripe}
 
 -- No start and no span has been written, and the slots in use are counted as before.
@@ -19,7 +19,7 @@ pub record Kept (ws bs vs cs : List ℕ) : Type 0 where
   pub lenW : length vs ≡ length ws
   pub lenB : length cs ≡ length bs
   pub nodes : nodesOf vs ≡ nodesOf ws
-  pub starts : (i : ℕ) → 255 * i + 255 ≤ length bs → startOf vs i ≡ startOf ws i
+  pub starts : (i : ℕ) → RoomIn bs i → startOf vs i ≡ startOf ws i
   pub spans : (i : ℕ) → spanOf vs i ≡ spanOf ws i
 
 -- Slot c is to be settled next: the tree of the children `kids` has a node there, with the number w and the children `now`
@@ -36,8 +36,8 @@ pub record Site (ws bs vs cs : List ℕ) (kids final : Forest) (c : ℕ) : Type 
   pub w : Num
   pub now : Forest
   pub ripe : Ripe vs cs c (depth context) b l w now
-  pub ahead : (i : ℕ) → i < c → 255 * i + 255 ≤ length bs → bareAt vs cs i ≡ bareAt ws bs i
-  pub behind : (i : ℕ) → c + spanOf ws c ≤ i → 255 * i + 255 ≤ length bs → bareAt vs cs i ≡ bareAt ws bs i
+  pub ahead : (i : ℕ) → i < c → RoomIn bs i → bareAt vs cs i ≡ bareAt ws bs i
+  pub behind : (i : ℕ) → c + spanOf ws c ≤ i → RoomIn bs i → bareAt vs cs i ≡ bareAt ws bs i
   pub result : settled context (settle b l w now rest) ≡ final
 
 -- Either the root is reached, and the slots behind it hold the tree that is left, with gaps; or there is a slot to settle.

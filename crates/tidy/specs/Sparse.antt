@@ -8,8 +8,9 @@ use Rattle.tree.specs.Key.{Key}
 use Rattle.tree.specs.Map.{Num}
 use Rattle.tree.specs.Tree.{Forest, nil, node}
 use Rattle.tree.specs.Remove.{settle}
-use Rattle.pool.specs.Layout.{startOf, lenOf, spanOf}
-use Rattle.pool.specs.Splice.{bareAt, baresFrom, nodeBare, baresF, solid}
+use Rattle.slots.specs.Layout.{SameHead, wordsFor, bytesFor, WordsIn, RoomIn, startOf, lenOf, spanOf}
+use Rattle.slots.specs.Bare.{bareAt, baresFrom, nodeBare, baresF}
+use Rattle.splice.specs.Splice.{solid}
 use Rattle.tidy.specs.declared.Kids.{Kids}
 
 -- A slot that is gone, with all that was below it
@@ -50,8 +51,8 @@ pub record Ripe (ws bs : List ℕ) (c s b : ℕ) (l : Key) (w : Num) (kids : For
   pub kids-are : Sparse ws bs (s + suc (length l)) (c + spanOf ws c) kids (c + 1)
 
 pub record Ready (ws bs : List ℕ) (c : ℕ) : Type 0 where
-  pub words : 6 * (c + spanOf ws c) + 8 ≤ length ws
-  pub labels : 255 * (c + spanOf ws c) ≤ length bs
+  pub words : wordsFor (c + spanOf ws c) ≤ length ws
+  pub labels : bytesFor (c + spanOf ws c) ≤ length bs
   pub s : ℕ
   pub b : ℕ
   pub l : Key
@@ -98,18 +99,18 @@ KidsAre ws bs c d kids Kids.More = Several kids
 -- Slot i is a child of slot c, and both lie within the buffers.
 pub record Below (ws bs : List ℕ) (c i : ℕ) : Type 0 where
   pub order : c < i
-  pub words : 6 * i + 14 ≤ length ws
-  pub labels : 255 * i + 255 ≤ length bs
+  pub words : WordsIn ws i
+  pub labels : RoomIn bs i
 
 -- Nothing is written but within the span of slot c, and no start and no span.
 pub record Inside (ws bs vs cs : List ℕ) (c : ℕ) : Type 0 where
   pub lenW : length vs ≡ length ws
   pub lenB : length cs ≡ length bs
-  pub head : (j : ℕ) → j < 8 → getD vs j 0 ≡ getD ws j 0
-  pub starts : (i : ℕ) → 255 * i + 255 ≤ length bs → startOf vs i ≡ startOf ws i
+  pub head : SameHead ws vs
+  pub starts : (i : ℕ) → RoomIn bs i → startOf vs i ≡ startOf ws i
   pub spans : (i : ℕ) → spanOf vs i ≡ spanOf ws i
-  pub before : (i : ℕ) → i < c → 255 * i + 255 ≤ length bs → bareAt vs cs i ≡ bareAt ws bs i
-  pub behind : (i : ℕ) → c + spanOf ws c ≤ i → 255 * i + 255 ≤ length bs → bareAt vs cs i ≡ bareAt ws bs i
+  pub before : (i : ℕ) → i < c → RoomIn bs i → bareAt vs cs i ≡ bareAt ws bs i
+  pub behind : (i : ℕ) → c + spanOf ws c ≤ i → RoomIn bs i → bareAt vs cs i ≡ bareAt ws bs i
 
 -- The node at slot c is settled, before whatever siblings come behind it.
 pub record NodeSettled (ws bs vs cs : List ℕ) (c s b : ℕ) (l : Key) (w : Num) (kids : Forest) : Type 0 where

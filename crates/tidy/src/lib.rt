@@ -9,7 +9,7 @@ ghost use lib.ListN.{length};
 ghost use Rattle.tree.specs.Key.{Key};
 ghost use Rattle.tree.specs.Map.{Num};
 ghost use Rattle.tree.specs.Tree.{Forest};
-ghost use Rattle.pool.specs.Layout.{spanOf};
+ghost use Rattle.slots.specs.Layout.{wordsFor, bytesFor, WordsIn, spanOf};
 ghost use Rattle.tidy.specs.Climb.{Climbing, Stage, Tidied};
 ghost use Rattle.tidy.specs.Sparse.{Sparse, Hops, Next, Ripe, Ready, KidsAre, OnlyChild, Below, NodeSettled, Parent};
 use tree::Slot;
@@ -23,33 +23,33 @@ pub enum Kids {
 
 // The first slot from `from` on, from span to span, that is no gap, or `end`.
 fn next_child(words: &[u32], from: Slot, end: Slot) -> Slot
-    requires { ⌜ (6 * end .0 + 8 ≤ length (now words)) × Hops (now words) (end .0) (from .0) ⌝ }
+    requires { ⌜ (wordsFor (end .0) ≤ length (now words)) × Hops (now words) (end .0) (from .0) ⌝ }
     ensures { λ r. ⌜ Hops (now (words .entry)) (end .0) (r .0) × ((bs : List ℕ) (s : ℕ) (f : Forest) → Sparse (now (words .entry)) bs s (end .0) f (from .0) → Next (now (words .entry)) bs s (end .0) f (from .0) (r .0)) ⌝ }
 {
     let end = end.0;
     let mut c = from.0;
     while c < end {
-        if pool::len_at(words, Slot(c)) > 0 {
+        if slots::len_at(words, Slot(c)) > 0 {
             return Slot(c);
         }
-        c += pool::span_at(words, Slot(c));
+        c += slots::span_at(words, Slot(c));
     }
     Slot(c)
 }
 
 // What children a slot has.
 fn kids_of(words: &[u32], at: Slot) -> Kids
-    requires { ⌜ (6 * (at .0 + spanOf (now words) (at .0)) + 8 ≤ length (now words)) × (1 ≤ spanOf (now words) (at .0)) ⌝ }
+    requires { ⌜ (wordsFor (at .0 + spanOf (now words) (at .0)) ≤ length (now words)) × (1 ≤ spanOf (now words) (at .0)) ⌝ }
     requires { ⌜ Hops (now words) (at .0 + spanOf (now words) (at .0)) (at .0 + 1) ⌝ }
     ensures { λ r. ⌜ ((bs : List ℕ) (s b : ℕ) (l : Key) (w : Num) (kids : Forest) → Ripe (now (words .entry)) bs (at .0) s b l w kids → KidsAre (now (words .entry)) bs (at .0) (s + suc (length l)) kids r) ⌝ }
 {
-    let end = at.0 + pool::span_at(words, at);
+    let end = at.0 + slots::span_at(words, at);
     let first = at.0 + 1;
     let child = next_child(words, Slot(first), Slot(end));
     if child.0 >= end {
         return Kids::Nothing;
     }
-    let next = child.0 + pool::span_at(words, child);
+    let next = child.0 + slots::span_at(words, child);
     let other = next_child(words, Slot(next), Slot(end));
     if other.0 < end {
         return Kids::More;
@@ -60,13 +60,13 @@ fn kids_of(words: &[u32], at: Slot) -> Kids
 // A slot without a number takes in its only child, if the joined label has at most 255 bytes.
 fn take_in(labels: &mut [u8], words: &mut [u32], at: Slot, child: Slot)
     requires { ⌜ Below (now words) (now labels) (at .0) (child .0) ⌝ }
-    ensures { λ _. ⌜ ((s b : ℕ) (l : Key) (kids : Forest) → Ripe (now (words .entry)) (now (labels .entry)) (at .0) s b l none kids → OnlyChild (now (words .entry)) (now (labels .entry)) (at .0) (s + suc (length l)) kids (child .0) → 255 * (at .0 + spanOf (now (words .entry)) (at .0)) ≤ length (now (labels .entry)) → NodeSettled (now (words .entry)) (now (labels .entry)) (now (words .exit)) (now (labels .exit)) (at .0) s b l none kids) ⌝ }
+    ensures { λ _. ⌜ ((s b : ℕ) (l : Key) (kids : Forest) → Ripe (now (words .entry)) (now (labels .entry)) (at .0) s b l none kids → OnlyChild (now (words .entry)) (now (labels .entry)) (at .0) (s + suc (length l)) kids (child .0) → bytesFor (at .0 + spanOf (now (words .entry)) (at .0)) ≤ length (now (labels .entry)) → NodeSettled (now (words .entry)) (now (labels .entry)) (now (words .exit)) (now (labels .exit)) (at .0) s b l none kids) ⌝ }
 {
-    if pool::len_at(words, at) + pool::len_at(words, child) > 255 {
+    if slots::len_at(words, at) + slots::len_at(words, child) > 255 {
         return;
     }
-    pool::alter::join_label(labels, words, at, child);
-    pool::alter::open_gap(words, child);
+    splice::alter::join_label(labels, words, at, child);
+    splice::alter::open_gap(words, child);
 }
 
 // Settles one node: it goes if it has neither number nor child, and it takes in an only child if it has no number.
@@ -74,11 +74,11 @@ fn settle_node(labels: &mut [u8], words: &mut [u32], at: Slot)
     requires { ⌜ Ready (now words) (now labels) (at .0) ⌝ }
     ensures { λ _. ⌜ ((s b : ℕ) (l : Key) (w : Num) (kids : Forest) → Ripe (now (words .entry)) (now (labels .entry)) (at .0) s b l w kids → NodeSettled (now (words .entry)) (now (labels .entry)) (now (words .exit)) (now (labels .exit)) (at .0) s b l w kids) ⌝ }
 {
-    if pool::has_at(words, at) > 0 {
+    if slots::has_at(words, at) > 0 {
         return;
     }
     match kids_of(words, at) {
-        Kids::Nothing => pool::alter::open_gap(words, at),
+        Kids::Nothing => splice::alter::open_gap(words, at),
         Kids::One(child) => take_in(labels, words, at, child),
         Kids::More => {}
     }
@@ -86,13 +86,13 @@ fn settle_node(labels: &mut [u8], words: &mut [u32], at: Slot)
 
 // The parent of a slot: the nearest before it that starts above it. The root's children start where the root does.
 fn parent_of(words: &[u32], at: Slot) -> Slot
-    requires { ⌜ (1 ≤ at .0) × (6 * at .0 + 14 ≤ length (now words)) ⌝ }
+    requires { ⌜ (1 ≤ at .0) × WordsIn (now words) (at .0) ⌝ }
     ensures { λ r. ⌜ Parent (now (words .entry)) (at .0) (r .0) ⌝ }
 {
-    let start = pool::start_at(words, at);
+    let start = slots::start_at(words, at);
     let mut r = at.0 - 1;
     while 0 < r {
-        if pool::start_at(words, Slot(r)) < start {
+        if slots::start_at(words, Slot(r)) < start {
             return Slot(r);
         }
         r -= 1;
@@ -119,7 +119,7 @@ pub fn tidy(labels: &mut [u8], words: &mut [u32], from: Slot)
     ensures { λ _. ⌜ ((x : Climbing (now (words .entry)) (now (labels .entry)) (from .0)) → Tidied (now (words .entry)) (now (labels .entry)) (now (words .exit)) (now (labels .exit)) (x .final)) ⌝ }
 {
     climb(labels, words, from);
-    let n = pool::nodes_in(words);
-    let left = pool::splice::close_gaps(labels, words, n);
-    pool::splice::settle(words, left);
+    let n = slots::nodes_in(words);
+    let left = splice::close_gaps(labels, words, n);
+    splice::settle(words, left);
 }

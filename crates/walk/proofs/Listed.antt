@@ -9,7 +9,7 @@ use lib.Seq.{sets, length-sets, take-take}
 use Rattle.tree.specs.Key.{Key, keyMax}
 use Rattle.tree.specs.Map.{Num, Pairs}
 use Rattle.tree.specs.Tree.{Forest, nil, node, Tree, Wf, WellFormed, labelled, own, pairsF, pairsT}
-use Rattle.pool.specs.Splice.{Bare, baresF, baresT}
+use Rattle.slots.specs.Bare.{Bare, baresF, baresT}
 use Rattle.walk.proofs.Path.{front-sets, above-sets}
 
 -- A number at a key, if there is one, before other pairs

@@ -1,12 +1,13 @@
 -- A label laid into the path behind the bytes above it: what stands at the path's front then. Assumes nothing.
 use mathlib.Core.Path.{_≡_, ap, _∙_}
 use mathlib.Core.List.{List, _++_, append-assoc}
-use Prim.Native.Nat.{ℕ, _+_, _*_, _-_, _≤_}
+use Prim.Native.Nat.{ℕ, _+_, _-_, _≤_}
 use native.Mathlib.Omega.{arith}
-use lib.ListN.{length, take, drop, length-take, length-drop, length-append}
+use lib.ListN.{length, take, drop, length-append}
 use lib.Seq.{sets, sets-eq, take-at, length-take-le}
 use borrow.Rule.Slice.PartMut.{putMid}
-use Rattle.pool.specs.Layout.{startOf, lenOf, labelOf}
+use Rattle.slots.specs.Layout.{startOf, lenOf, labelOf}
+use Rattle.slots.proofs.Cuts.{label-length}
 use Rattle.writer.proofs.Lists.{part-put}
 use Rattle.walk.specs.Due.{laid, LayRoom, Laid}
 
@@ -19,11 +20,6 @@ module _ (path xs : List ℕ) (s : ℕ) (fits : s + length xs ≤ length path) w
 
   pub above-sets : take s (sets path s xs) ≡ take s path
   above-sets = rw (sets-eq xs path s fits, append-assoc (take s path) xs (drop (s + length xs) path)) (take-at (take s path) (xs ++ drop (s + length xs) path) s (length-take-le s path (omega arith)))
-
--- A label has the length that its slot says.
-pub label-length : (ws bs : List ℕ) (i : ℕ) → lenOf ws i ≤ 255 → 255 * i + 255 ≤ length bs → length (labelOf ws bs i) ≡ lenOf ws i
-label-length ws bs i h j =
-    length-take-le (lenOf ws i) (take 255 (drop (255 * i) bs)) (simp (length-take, length-drop) (omega arith))
 
 -- The part of the path that the label was copied to
 pub lay-done : {ws bs path : List ℕ} {i : ℕ} → LayRoom ws bs path i → {from to : ℕ} {ys : List ℕ} → from ≡ startOf ws i → to ≡ from + lenOf ws i → ys ≡ labelOf ws bs i

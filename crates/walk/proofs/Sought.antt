@@ -14,16 +14,16 @@ use Rattle.tree.specs.Tree.{Forest, nil, node, Tree, Wf, room}
 use Rattle.tree.specs.Walk.{stepT}
 use Rattle.tree.proofs.Parts.{starts, not, stripped}
 use Rattle.label.proofs.Moves.{by-lt, by-eq}
-use Rattle.pool.specs.Layout.{nodesOf, startOf, hasOf, numberOf, numOf, numAt, labelOf}
-use Rattle.pool.specs.Records.{run}
-use Rattle.pool.specs.Splice.{Bare, bareAt, baresFrom, baresF, baresT}
+use Rattle.slots.specs.Layout.{nodesOf, startOf, hasOf, numberOf, numOf, numAt, labelOf}
+use Rattle.slots.specs.Records.{run}
+use Rattle.slots.specs.Bare.{Bare, bareAt, baresFrom, baresF, baresT}
 use Rattle.pool.specs.Pool.{poolTree}
 use Rattle.pool.specs.Rule.{PoolRule}
-use Rattle.pool.proofs.Runs.{run-cons}
+use Rattle.slots.proofs.Runs.{run-cons}
 use Rattle.pool.proofs.Stands.{Holds}
 use Rattle.pool.proofs.Held.{tree-holds}
 use Rattle.pool.proofs.Ruled.{rule-tree}
-use Rattle.pool.proofs.Bares.{holds-bares}
+use Rattle.splice.proofs.Bares.{holds-bares}
 use Rattle.tree.specs.declared.RuleNo.{RuleNo}
 use Rattle.walk.specs.declared.Found.{Found}
 use Rattle.walk.specs.Due.{due, laid, LayRoom, Laid, Sought}
@@ -161,7 +161,7 @@ module _ {ws bs : List ℕ} {p : Key} {l : Option Key} {n : ℕ} {path₀ path :
     unfolding pairsOf bareAt laid
     here =
         let c : n - i ≡ suc (n - (i + 1)) = omega arith in
-        a .same ∙ rw (c, run-cons (bareAt ws bs) i (n - (i + 1)), e .bytes, e .end, add-one)
+        a .same ∙ rw (c, run-cons (bareAt ws bs) i (n - (i + 1)), e .bytes, e .end, add-one i)
 
     pub laid-length : length path′ ≡ keyMax
     unfolding laid

@@ -10,7 +10,7 @@ use Rattle.tree.specs.Key.{Key, strip}
 use Rattle.tree.specs.Map.{Pair, past}
 use Rattle.tree.specs.Tree.{Tree}
 use Rattle.tree.specs.Walk.{stepT}
-use Rattle.pool.specs.Layout.{startOf, lenOf, labelOf}
+use Rattle.slots.specs.Layout.{WordsIn, RoomIn, startOf, lenOf, labelOf}
 use Rattle.pool.specs.Pool.{poolTree}
 use Rattle.walk.specs.declared.Found.{Found}
 
@@ -34,8 +34,8 @@ laid ws bs path i = sets path (startOf ws i) (labelOf ws bs i)
 
 -- Slot i within the words and labels, whose key has room in the path
 pub record LayRoom (ws bs path : List ℕ) (i : ℕ) : Type 0 where
-  pub words : 6 * i + 14 ≤ length ws
-  pub labels : 255 * i + 255 ≤ length bs
+  pub words : WordsIn ws i
+  pub labels : RoomIn bs i
   pub short : lenOf ws i ≤ 255
   pub deep : startOf ws i + lenOf ws i ≤ length path
 

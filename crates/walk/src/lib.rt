@@ -7,7 +7,7 @@ ghost use Prim.Native.Nat.{_+_, _*_, _≤_};
 ghost use lib.ListN.{length};
 ghost use Rattle.tree.specs.Key.{keyMax, pick};
 ghost use Rattle.tree.specs.Map.{past};
-ghost use Rattle.pool.specs.Layout.{hasOf};
+ghost use Rattle.slots.specs.Layout.{WordsIn, hasOf};
 ghost use Rattle.pool.specs.Lent.{before};
 ghost use Rattle.pool.specs.Rule.{PoolRule};
 ghost use Rattle.walk.specs.Due.{lastIf, due, GivesKey, LayRoom, Laid, Sought};
@@ -69,18 +69,18 @@ fn lay(labels: &[u8], words: &[u32], at: Slot, path: &mut [u8]) -> usize
     requires { ⌜ LayRoom (now words) (now labels) (now path) (at .0) ⌝ }
     ensures { λ r. ⌜ Laid (now (words .entry)) (now (labels .entry)) (now (path .entry)) (at .0) (now (path .exit)) r ⌝ }
 {
-    let from = pool::start_at(words, at);
-    let to = from + pool::len_at(words, at);
-    label::copy(&mut path[from..to], pool::label_at(labels, words, at));
+    let from = slots::start_at(words, at);
+    let to = from + slots::len_at(words, at);
+    label::copy(&mut path[from..to], slots::label_at(labels, words, at));
     to
 }
 
 // Whether a slot gives a key: one with a number does, also where longer keys stand below it.
 fn gives_key(words: &[u32], at: Slot) -> bool
-    requires { ⌜ 6 * at .0 + 14 ≤ length (now words) ⌝ }
+    requires { ⌜ WordsIn (now words) (at .0) ⌝ }
     ensures { λ r. ⌜ GivesKey r (hasOf (now (words .entry)) (at .0)) ⌝ }
 {
-    if pool::has_at(words, at) == 0 {
+    if slots::has_at(words, at) == 0 {
         return false;
     }
     true
@@ -99,13 +99,13 @@ fn seek(
     requires { ⌜ PoolRule (now words) (now labels) × (length (now path) ≡ keyMax) ⌝ }
     ensures { λ r. ⌜ Sought (now (words .entry)) (now (labels .entry)) (now (prefix .entry)) (lastIf begun (now (last .entry))) r (now (path .exit)) ⌝ }
 {
-    let n = pool::nodes_in(words);
+    let n = slots::nodes_in(words);
     let mut i: usize = 0;
     while i < n {
         let len = lay(labels, words, Slot(i), path);
         if gives_key(words, Slot(i)) {
             if is_due(&path[..len], prefix, last, begun) {
-                return Found::Key(len, pool::number_at(words, Slot(i)));
+                return Found::Key(len, slots::number_at(words, Slot(i)));
             }
         }
         i += 1;

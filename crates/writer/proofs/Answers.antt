@@ -14,7 +14,7 @@ use Rattle.tree.specs.Tree.{Tree}
 use Rattle.tree.specs.Image.{imageT, numbersT}
 use Rattle.tree.specs.Told.{done, refusal}
 use Rattle.tree.specs.Calls.{both, writeCall}
-use Rattle.pool.specs.Layout.{nodesOf}
+use Rattle.slots.specs.Layout.{nodesOf}
 use Rattle.pool.specs.Pool.{poolTree}
 use Rattle.pool.specs.Rule.{PoolRule}
 use Rattle.pool.specs.Fields.{hasSum}

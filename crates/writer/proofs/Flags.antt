@@ -14,8 +14,8 @@ use Rattle.tree.specs.Tree.{Forest, nil, node, Tree, nodesF, keysW}
 use Rattle.tree.specs.Image.{flags, imageF, imageT}
 use Rattle.flags.specs.Flags.{flagByte}
 use Rattle.flags.proofs.Judged.{numbered, peopled, flag-byte-is}
-use Rattle.pool.specs.Layout.{hasOf, spanOf}
-use Rattle.pool.specs.Records.{rootRec}
+use Rattle.slots.specs.Layout.{hasOf, spanOf}
+use Rattle.slots.specs.Records.{rootRec}
 use Rattle.pool.proofs.Stands.{Holds}
 use Rattle.pool.proofs.Held.{slot-is-rec}
 use Rattle.writer.specs.Parts.{recordAt}

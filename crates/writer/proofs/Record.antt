@@ -2,26 +2,22 @@
 use mathlib.Core.Path.{_≡_, sym, _∙_}
 use mathlib.Core.List.{List, [], _∷_, _++_}
 use mathlib.Core.Bool.{Bool}
-use Prim.Native.Nat.{ℕ, _+_, _*_, _-_, _/_, _%_, _≤_}
+use Prim.Native.Nat.{ℕ, _+_, _-_, _/_, _%_}
 use native.Mathlib.Omega.{arith}
-use lib.ListN.{length, set, take, drop, length-take, length-drop}
-use lib.Seq.{take-take}
+use lib.ListN.{length, set}
 use lib.Dec.{ltb}
 use borrow.Rule.Slice.PartMut.{putMid}
 use Rattle.flags.specs.Flags.{flagByte}
-use Rattle.pool.specs.Layout.{lenOf, hasOf, spanOf, labelOf}
+use Rattle.slots.specs.Layout.{lenOf, hasOf, spanOf, labelOf}
+use Rattle.slots.proofs.Cuts.{label-length}
 use Rattle.writer.specs.Parts.{recordAt}
 use Rattle.writer.specs.Runs.{Put, RecordRoom}
 use Rattle.writer.proofs.Lists.{put-more, put-as, put-length, part-put, four-put}
 
--- the label as the code reads it
-label-is : (ws bs : List ℕ) (c n : ℕ) → n ≡ lenOf ws c → n ≤ 255 → take (255 * c + n - 255 * c) (drop (255 * c) bs) ≡ labelOf ws bs c
-label-is ws bs c n e h =
-    let d : 255 * c + n - 255 * c ≡ lenOf ws c = omega arith in
-    rw d (sym (take-take (lenOf ws c) 255 (drop (255 * c) bs) (omega arith)))
-
-label-length : (ws bs : List ℕ) (c : ℕ) → lenOf ws c ≤ 255 → 255 * c + 255 ≤ length bs → length (labelOf ws bs c) ≡ lenOf ws c
-label-length ws bs c h i = omega (arith, length-take (lenOf ws c) (take 255 (drop (255 * c) bs)), length-take 255 (drop (255 * c) bs), length-drop (255 * c) bs)
+-- the label as long as the record says
+pub label-fits : {ws bs : List ℕ} {c level : ℕ} {out : List ℕ} {i : ℕ} → RecordRoom ws bs c level out i → {n : ℕ} → n ≡ lenOf ws c
+    → length (labelOf ws bs c) ≡ n
+label-fits {ws} {bs} {c} room e = label-length ws bs c (room .short) (omega (arith, room .within .labels)) ∙ sym e
 
 -- an output after the four stores
 abbrev four : (out : List ℕ) (i f n level : ℕ) → List ℕ
@@ -33,14 +29,14 @@ module _ {ws bs : List ℕ} {c level : ℕ} {out : List ℕ} {i : ℕ} (room : R
   unfolding recordAt
   whole = rw (ef, en, eh, es)
 
-  pub record-put : {last : List ℕ} → last ≡ take (255 * c + n - 255 * c) (drop (255 * c) bs)
+  pub record-put : {last : List ℕ} → last ≡ labelOf ws bs c
       → Put (recordAt ws bs c level sibling) out i (putMid (i + 4) (i + 4 + n - (i + 4)) (four out i f n level) last) (i + 4 + n)
   record-put {last} el =
       let hd = four-put out i f n (level / 256) (level % 256) in
-      let len = label-length ws bs c (room .short) (omega (arith, room .within .labels)) in
+      let len = label-fits room en in
       let lb : Put (labelOf ws bs c) (four out i f n level) (i + 4) (putMid (i + 4) (i + 4 + n - (i + 4)) (four out i f n level) last) (i + 4 + n) =
       record {
-        bytes = part-put (labelOf ws bs c) last (four out i f n level) (i + 4) (i + 4 + n) (el ∙ label-is ws bs c n en (omega (arith, room .short))) (omega arith) (omega (arith, room .fits, put-length hd));
+        bytes = part-put (labelOf ws bs c) last (four out i f n level) (i + 4) (i + 4 + n) el (omega arith) (omega (arith, room .fits, put-length hd));
         behind = omega arith;
       } in
       put-as whole (put-more hd lb)

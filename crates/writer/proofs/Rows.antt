@@ -15,8 +15,8 @@ use Rattle.tree.specs.Map.{Num}
 use Rattle.tree.specs.Tree.{Forest, nil, node, nodesF, Wf, room}
 use Rattle.tree.specs.Image.{flags, imageF}
 use Rattle.flags.proofs.Judged.{peopled}
-use Rattle.pool.specs.Layout.{startOf, lenOf, hasOf, spanOf}
-use Rattle.pool.specs.Records.{nodeRec}
+use Rattle.slots.specs.Layout.{startOf, lenOf, hasOf, spanOf}
+use Rattle.slots.specs.Records.{nodeRec}
 use Rattle.pool.specs.Rule.{Within}
 use Rattle.pool.proofs.Stands.{Stands, stands-at, recs-stands}
 use Rattle.pool.proofs.Held.{SlotIs, slot-is-rec}

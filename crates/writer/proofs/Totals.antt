@@ -11,8 +11,8 @@ use lib.Seq.{sets}
 use Rattle.tree.specs.Map.{Num}
 use Rattle.tree.specs.Tree.{Forest, nil, node, Tree, nodesF, keysW, keysF, keysT}
 use Rattle.tree.specs.Image.{imageF, imageT, numbersW, numbersF, numbersT}
-use Rattle.pool.specs.Layout.{nodesOf, lenOf, hasOf, numberOf, numOf, numAt}
-use Rattle.pool.specs.Records.{nodeRec, rootRec}
+use Rattle.slots.specs.Layout.{nodesOf, lenOf, hasOf, numberOf, numOf, numAt}
+use Rattle.slots.specs.Records.{nodeRec, rootRec}
 use Rattle.pool.specs.Fields.{hasSum}
 use Rattle.pool.proofs.Stands.{Stands, Holds, nodes-are}
 use Rattle.pool.proofs.Held.{slot-is-rec}

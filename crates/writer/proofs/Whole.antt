@@ -8,8 +8,8 @@ use lib.ListN.{length, length-append}
 use Rattle.tree.specs.Key.{Bytes}
 use Rattle.tree.specs.Tree.{Tree, nodesF}
 use Rattle.tree.specs.Image.{imageF, imageT}
-use Rattle.pool.specs.Layout.{nodesOf}
-use Rattle.pool.specs.Records.{rootRec}
+use Rattle.slots.specs.Layout.{nodesOf}
+use Rattle.slots.specs.Records.{rootRec}
 use Rattle.pool.specs.Rule.{Within}
 use Rattle.pool.proofs.Stands.{Holds, nodes-are, stands-recs}
 use Rattle.pool.proofs.Held.{SlotIs, slot-is-rec, tree-holds}

@@ -6,7 +6,7 @@ use lib.ListN.{length}
 use lib.Dec.{ltb, eqb}
 use Rattle.tree.specs.Image.{numbersW}
 use Rattle.flags.specs.Flags.{flagByte}
-use Rattle.pool.specs.Layout.{startOf, lenOf, hasOf, spanOf, labelOf, numAt}
+use Rattle.slots.specs.Layout.{wordsFor, startOf, lenOf, hasOf, spanOf, labelOf, numAt}
 
 -- The record of slot c: flags, label length, level high byte, level low byte, label
 unfoldable pub recordAt : (ws bs : List ℕ) (c level : ℕ) (sibling : Bool) → List ℕ
@@ -20,7 +20,7 @@ followsAt ws c n = elim (ltb (c + spanOf ws c) n) [ true ↦ eqb (startOf ws (c 
 -- Slot c of n slots, all of them within the words
 pub record Followed (ws : List ℕ) (c n : ℕ) : Type 0 where
   pub used : c < n
-  pub words : 6 * n + 8 ≤ length ws
+  pub words : wordsFor n ≤ length ws
 
 -- How many bytes the records of the first n slots have
 unfoldable pub recordSum : List ℕ → ℕ → ℕ

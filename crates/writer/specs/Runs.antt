@@ -7,8 +7,8 @@ use lib.ListN.{length}
 use lib.Seq.{sets}
 use Rattle.tree.specs.Tree.{Forest, Tree, Wf, nodesF}
 use Rattle.tree.specs.Image.{imageF, imageT}
-use Rattle.pool.specs.Layout.{lenOf}
-use Rattle.pool.specs.Records.{recsFrom, recsF}
+use Rattle.slots.specs.Layout.{lenOf}
+use Rattle.slots.specs.Records.{recsFrom, recsF}
 use Rattle.pool.specs.Rule.{Within}
 use Rattle.pool.specs.Pool.{poolTree}
 

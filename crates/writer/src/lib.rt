@@ -6,7 +6,7 @@ ghost use Prim.Native.Nat.{_+_, _*_, _≤_, _<_};
 ghost use lib.ListN.{length};
 ghost use lib.Seq.{sets};
 ghost use Rattle.tree.specs.Image.{numbersW};
-ghost use Rattle.pool.specs.Layout.{numAt};
+ghost use Rattle.slots.specs.Layout.{wordsFor, WordsIn, numAt};
 ghost use Rattle.pool.specs.Lent.{before};
 ghost use Rattle.writer.specs.Post.{WriteAllows};
 ghost use Rattle.writer.specs.Parts.{recordAt, followsAt, Followed, recordSum, numbersIn};
@@ -17,13 +17,13 @@ use tree::Written;
 
 // How many bytes the image of n slots has: each record is four bytes and its label.
 fn image_length(words: &[u32], n: usize) -> usize
-    requires { ⌜ (6 * n + 8 ≤ length (now words)) × (n ≤ 16384) ⌝ }
+    requires { ⌜ (wordsFor n ≤ length (now words)) × (n ≤ 16384) ⌝ }
     ensures { λ r. ⌜ r ≡ recordSum (now (words .entry)) n ⌝ }
 {
     let mut sum: usize = 0;
     let mut i: usize = 0;
     while i < n {
-        sum += 4 + pool::len_at(words, Slot(i));
+        sum += 4 + slots::len_at(words, Slot(i));
         i += 1;
     }
     sum
@@ -43,18 +43,17 @@ fn write_record(
     requires { ⌜ RecordRoom (now words) (now labels) (slot .0) (level .0) (now out) at ⌝ }
     ensures { λ r. ⌜ Put (recordAt (now (words .entry)) (now (labels .entry)) (slot .0) (level .0) sibling) (now (out .entry)) at (now (out .exit)) r ⌝ }
 {
-    let n = pool::len_at(words, slot);
-    let number = 0 < pool::has_at(words, slot);
-    let child = 1 < pool::span_at(words, slot);
+    let n = slots::len_at(words, slot);
+    let number = 0 < slots::has_at(words, slot);
+    let child = 1 < slots::span_at(words, slot);
     out[at] = flags::flag_byte(number, child, sibling);
     out[at + 1] = n as u8;
     out[at + 2] = (level.0 / 256) as u8;
     out[at + 3] = (level.0 % 256) as u8;
     let to = at + 4;
     let next = to + n;
-    let from = 255 * slot.0;
-    let till = from + n;
-    label::copy(&mut out[to..next], &labels[from..till]);
+    let label = slots::label_at(labels, words, slot);
+    label::copy(&mut out[to..next], label);
     next
 }
 
@@ -63,11 +62,11 @@ fn follows(words: &[u32], slot: Slot, n: usize) -> bool
     requires { ⌜ Followed (now words) (slot .0) n ⌝ }
     ensures { λ r. ⌜ r ≡ followsAt (now (words .entry)) (slot .0) n ⌝ }
 {
-    let next = slot.0 + pool::span_at(words, slot);
+    let next = slot.0 + slots::span_at(words, slot);
     if next >= n {
         return false;
     }
-    pool::start_at(words, Slot(next)) == pool::start_at(words, slot)
+    slots::start_at(words, Slot(next)) == slots::start_at(words, slot)
 }
 
 // A level as the table keeps it.
@@ -91,8 +90,8 @@ fn write_slots(labels: &[u8], words: &[u32], n: usize, out: &mut [u8], at: usize
     let mut i: usize = 1;
     let mut place = at;
     while i < n {
-        let start = pool::start_at(words, Slot(i));
-        let end = start + pool::len_at(words, Slot(i));
+        let start = slots::start_at(words, Slot(i));
+        let end = start + slots::len_at(words, Slot(i));
         let level = wide(levels[start]);
         levels[end] = (level + 1) as u16;
         let sibling = follows(words, Slot(i), n);
@@ -107,7 +106,7 @@ fn write_tree(labels: &[u8], words: &[u32], out: &mut [u8])
     requires { ⌜ TreeRoom (now words) (now labels) (now out) ⌝ }
     ensures { λ _. ⌜ TreePut (now (words .entry)) (now (labels .entry)) (now (out .entry)) (now (out .exit)) ⌝ }
 {
-    let n = pool::nodes_in(words);
+    let n = slots::nodes_in(words);
     let below = write_record(labels, words, Slot(0), Level(0), false, out, 0);
     write_slots(labels, words, n, out, below);
 }
@@ -115,19 +114,19 @@ fn write_tree(labels: &[u8], words: &[u32], out: &mut [u8])
 // Writes the number of one slot, if it has one, and gives the place behind it. Counterpart: what `Node::serialize` pushes
 // to its values for one node.
 fn write_number(words: &[u32], slot: Slot, out: &mut [u32], at: usize) -> usize
-    requires { ⌜ (6 * slot .0 + 14 ≤ length (now words)) × (at + length (numbersW (numAt (now words) (slot .0)) []) ≤ length (now out)) ⌝ }
+    requires { ⌜ WordsIn (now words) (slot .0) × (at + length (numbersW (numAt (now words) (slot .0)) []) ≤ length (now out)) ⌝ }
     ensures { λ r. ⌜ Put (numbersW (numAt (now (words .entry)) (slot .0)) []) (now (out .entry)) at (now (out .exit)) r ⌝ }
 {
-    if pool::has_at(words, slot) == 0 {
+    if slots::has_at(words, slot) == 0 {
         return at;
     }
-    out[at] = pool::number_at(words, slot).0;
+    out[at] = slots::number_at(words, slot).0;
     at + 1
 }
 
 // Writes the numbers of n slots to the front of the output.
 fn write_numbers(words: &[u32], n: usize, out: &mut [u32])
-    requires { ⌜ (6 * n + 8 ≤ length (now words)) × (length (numbersIn (now words) n) ≤ length (now out)) ⌝ }
+    requires { ⌜ (wordsFor n ≤ length (now words)) × (length (numbersIn (now words) n) ≤ length (now out)) ⌝ }
     ensures { λ _. ⌜ now (out .exit) ≡ sets (now (out .entry)) 0 (numbersIn (now (words .entry)) n) ⌝ }
 {
     let mut at: usize = 0;
@@ -148,7 +147,7 @@ pub fn write(labels: &[u8], words: &[u32], tree: &mut [u8], numbers: &mut [u32])
     if !pool::is_pool(labels, words) {
         return Written::NotPool;
     }
-    let n = pool::nodes_in(words);
+    let n = slots::nodes_in(words);
     let bytes = image_length(words, n);
     let keys = pool::keys_in(words, n);
     if tree.len() < bytes {

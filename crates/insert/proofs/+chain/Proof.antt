@@ -10,7 +10,7 @@ use Rattle.insert.proofs.chain.Reads as chain
 use Rattle.insert.proofs.chain.Kinds as chain-kinds
 use Rattle.insert.proofs.+chain.Lts-chain as chain-lts
 use Rattle.insert.proofs.chain_nodes.Reads as chain-nodes-reads
-use Rattle.pool.proofs.splice.put_linked.Reads as put-linked-reads
+use Rattle.slots.proofs.put.put_linked.Reads as put-linked-reads
 use Rattle.insert.proofs.+chain.{statement}
 use Rattle.insert.proofs.+chain.Tie.{close}
 

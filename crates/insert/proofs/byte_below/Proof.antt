@@ -2,7 +2,7 @@
 use mathlib.Core.Path.{ap}
 use native.Mathlib.Omega.{arith}
 use lib.ListN.{length}
-use Rattle.pool.proofs.Cuts.{label-length}
+use Rattle.slots.proofs.Cuts.{label-length}
 use Rattle.insert.proofs.Room.{side-is}
 use borrow.Author.Needs.{needs}
 use Rattle.insert.proofs.byte_below.Statement.{statement}

@@ -42,13 +42,28 @@ same-length-2 : tie.Need-same-length-2
 same-length-2 c = refl
 
 returns : tie.Need-returns
-returns c = no-room (known (c .before .before .before .before)) (key-bytes (c .before .before .before .before)) _ _ _ (c .before .before .nodes-in .ensures .0) (c .before .new-nodes .ensures .0) (c .if1 .taken)
+returns c =
+    let sized = c .before in
+    let grown = sized .before .before in
+    let counted = grown .before in
+    let landed = counted .before .before in
+    no-room (known landed) (key-bytes landed) _ _ _ (counted .nodes-in .ensures .0) (grown .new-nodes .ensures .0)
+    (rw (sized .slots-in .ensures) at (c .if1 .taken))
 
 place-requires : tie.Need-place-requires
 place-requires c κs =
     let tested = c .before .before in
-    let p = tested .before .before .before .before .before .before .before .before .before .before .pre in
-    (p .0, p .1, tested .before .before .before .before .descend .ensures, grows-by (p .0) _ _ (tested .before .before .nodes-in .ensures .0) (tested .if1 .left), tested .before .new-nodes .ensures .0)
+    let sized = tested .before in
+    let grown = sized .before .before in
+    let counted = grown .before in
+    let landed = counted .before .before in
+    let p = landed .before .before .before .before .before .before .pre in (
+      p .0,
+      p .1,
+      landed .descend .ensures,
+      grows-by (p .0) _ _ (counted .nodes-in .ensures .0) (rw (sized .slots-in .ensures) at (tested .if1 .left)),
+      grown .new-nodes .ensures .0,
+    )
 
 same-length-3 : tie.Need-same-length-3
 same-length-3 c = c .before .before .before .before .place .kept .0
@@ -67,6 +82,7 @@ insert-in-spec =
     nodes-in-requires
     new-nodes-requires
     add-if1
+    (λ c κs. tt)
     same-length
     same-length-2
     returns

@@ -1,7 +1,7 @@
 -- `insert::set_number` meets its contract. Assumes nothing.
 use mathlib.Core.Path.{ap, sym, _∙_}
 use native.Mathlib.Omega.{arith}
-use Rattle.pool.specs.Splice.{storedOf}
+use Rattle.slots.specs.Bare.{storedOf}
 use Rattle.insert.proofs.Room.{told-new, told-old, number-placed}
 use borrow.Author.Needs.{needs}
 use Rattle.insert.proofs.set_number.Statement.{statement}

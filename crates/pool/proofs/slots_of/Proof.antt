@@ -10,6 +10,6 @@ use Rattle.pool.proofs.slots_of.Tie as tie
 pub slots-of-spec : {M : Type 1} → statement M
 slots-of-spec =
     tie.close
-    (tie.spec (λ c. sym (no-slots _ _ (λ s l. omega (arith, l)))) (λ c. sym (no-slots _ _ (λ s l. omega (arith, l)))) (λ c. search needs)
+    (tie.spec (λ c κs. search needs) (λ c. sym (no-slots _ _ (λ s l. omega (arith, l)))) (λ c. sym (no-slots _ _ (λ s l. omega (arith, l)))) (λ c. search needs)
     (λ c. sym (no-slots _ _ (λ s l. omega (arith, l)))) (λ c. search needs) (λ c. search needs) (λ c. sym (no-slots _ _ (λ s l. omega (arith, l))))
     (λ c. sym (right-slots _ _ _ (omega arith))))

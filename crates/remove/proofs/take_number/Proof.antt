@@ -1,6 +1,6 @@
 -- `remove::take_number` meets its contract. Assumes nothing.
 use mathlib.Core.Path.{ap, sym, _∙_}
-use Rattle.pool.specs.Splice.{storedOf}
+use Rattle.slots.specs.Bare.{storedOf}
 use Rattle.remove.proofs.Taken.{found-slot, found-climbing, not-stored, stored}
 use borrow.Author.Needs.{needs}
 use Rattle.remove.proofs.take_number.Statement.{statement}

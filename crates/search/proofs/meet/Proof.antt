@@ -2,7 +2,7 @@
 use mathlib.Core.Path.{_≡_, _∙_}
 use Prim.Native.Nat.{_-_}
 use lib.ListN.{length, take, drop}
-use Rattle.pool.specs.Layout.{labelOf}
+use Rattle.slots.specs.Layout.{labelOf}
 use Rattle.search.specs.Landing.{meetingOf}
 use Rattle.search.proofs.Meets.{meets-below, meets-above, meets-runs, byLengths, by-same, by-through, by-inside, by-fork, run-on}
 use borrow.Author.Needs.{needs}

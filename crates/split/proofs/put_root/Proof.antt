@@ -7,7 +7,10 @@ use Rattle.split.proofs.put_root.Statement.{statement}
 use Rattle.split.proofs.put_root.Tie as tie
 
 returns : tie.Need-returns
-returns c = rooted _ _ _ _ _ _ _ (omega arith) refl refl refl refl refl (c .before .before .before .before .before .before .put-words .ensures) (c .before .before .put-nodes .ensures)
+returns c =
+    let counted = c .before .before in
+    let written = counted .before .before .before .before in
+    rooted _ _ _ _ _ _ _ (omega arith) refl refl refl refl refl (written .put-words .ensures) (counted .set-nodes .ensures)
 
 pub put-root-spec : {M : Type 1} → statement M
 put-root-spec = tie.close (tie.spec (λ c. search needs) (λ c κs. search needs) (λ c. search needs) (λ c κs. search needs) (λ c. search needs) returns)

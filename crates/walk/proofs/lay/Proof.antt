@@ -2,7 +2,8 @@
 use native.Mathlib.Omega.{arith}
 use mathlib.Core.Path.{_∙_, ap}
 use lib.ListN.{length}
-use Rattle.walk.proofs.Path.{label-length, lay-done}
+use Rattle.slots.proofs.Cuts.{label-length}
+use Rattle.walk.proofs.Path.{lay-done}
 use Prim.Native.Nat.{ℕ, _+_}
 use borrow.Author.Needs.{needs}
 use Rattle.walk.proofs.lay.Statement.{statement}

@@ -1,5 +1,5 @@
 -- `reader::fill::number_due` meets its contract. Assumes nothing.
-use Rattle.pool.specs.Layout.{numOf}
+use Rattle.slots.specs.Layout.{numOf}
 use borrow.Author.Needs.{needs}
 use Rattle.reader.proofs.fill.number_due.Statement.{statement}
 use Rattle.reader.proofs.fill.number_due.Tie as tie
