@@ -34,7 +34,7 @@ static int chain(int depth)
 {
     const uint32_t numbers[2] = {1, 2};
     const size_t lb = sizeof labels, lw = sizeof words / sizeof words[0];
-    size_t offset, keys, nodes, left;
+    size_t offset, keys, nodes, left, looked;
     uint32_t old;
     double test = 1e18, best = 1e18;
     for (int round = 0; round < 9; round++) {
@@ -54,7 +54,7 @@ static int chain(int depth)
         double took = now() - from;
         test = took < test ? took : test;
         from = now();
-        if (yarnhollow_remove(labels, lb, words, lw, key, (size_t)depth + 1, &old) != 0)
+        if (yarnhollow_remove(labels, lb, words, lw, key, (size_t)depth + 1, &old, &looked) != 0)
             return 1;
         took = now() - from;
         best = took < best ? took : best;

@@ -56,21 +56,25 @@ static void make_empty(void)
 static void make_forked(void)
 {
     uint32_t had_old = 0, old = 0;
+    size_t looked = 0;
     make_empty();
-    if (yarnhollow_insert(POOL, key, 2, 1, &had_old, &old) != YARNHOLLOW_DONE)
+    if (yarnhollow_insert(POOL, key, 2, 1, &had_old, &old, &looked) != YARNHOLLOW_DONE)
         exit(1);
 }
 
 static uint32_t had_old, number;
-static size_t length, length2;
+static size_t length, length2, looked;
 static uint32_t call_make(void) { return yarnhollow_make(POOL); }
 static uint32_t call_clear(void) { return yarnhollow_clear(POOL); }
-static uint32_t call_get(void) { return yarnhollow_get(POOL, key, LEVELS, &number); }
-static uint32_t call_insert(void) { return yarnhollow_insert(POOL, key, LEVELS, 2, &had_old, &number); }
-static uint32_t call_insert_fork(void) { return yarnhollow_insert(POOL, fork_key, LEVELS, 2, &had_old, &number); }
-static uint32_t call_remove(void) { return yarnhollow_remove(POOL, key, LEVELS, &number); }
-static uint32_t call_longest(void) { return yarnhollow_longest(POOL, key, LEVELS, &length, &number); }
-static uint32_t call_shared(void) { return yarnhollow_shared(POOL, key, LEVELS, &length); }
+static uint32_t call_get(void) { return yarnhollow_get(POOL, key, LEVELS, &number, &looked); }
+static uint32_t call_insert(void) { return yarnhollow_insert(POOL, key, LEVELS, 2, &had_old, &number, &looked); }
+static uint32_t call_insert_fork(void)
+{
+    return yarnhollow_insert(POOL, fork_key, LEVELS, 2, &had_old, &number, &looked);
+}
+static uint32_t call_remove(void) { return yarnhollow_remove(POOL, key, LEVELS, &number, &looked); }
+static uint32_t call_longest(void) { return yarnhollow_longest(POOL, key, LEVELS, &length, &number, &looked); }
+static uint32_t call_shared(void) { return yarnhollow_shared(POOL, key, LEVELS, &length, &looked); }
 static uint32_t call_next(void) { return yarnhollow_next(POOL, key, 1, key, LEVELS - 1, 1, out, sizeof out, &length, &number); }
 static uint32_t call_split(void) { return yarnhollow_split(POOL, key, 1, POOL2); }
 static uint32_t call_counts(void) { return yarnhollow_counts(POOL, &length, &length2); }

@@ -81,19 +81,20 @@ static void show_counts(const char *name, const struct pool *pool)
     printf("%s: %zu keys, %zu nodes\n", name, keys, nodes);
 }
 
-/* The rule for a path: the longest stored key that the path starts with. */
+/* The rule for a path: the longest stored key that the path starts with. Both calls search alike. */
 static void look_up(const char *path)
 {
-    size_t prefix_length = 0, shared_length = 0;
+    const uint8_t *query = (const uint8_t *)path;
+    size_t prefix_length = 0, shared_length = 0, looked = 0, looked_again = 0;
     uint32_t rule = 0;
-    uint32_t number = yarnhollow_longest(LENT(&rules), (const uint8_t *)path, strlen(path), &prefix_length, &rule);
+    uint32_t number = yarnhollow_longest(LENT(&rules), query, strlen(path), &prefix_length, &rule, &looked);
 
-    must("shared", yarnhollow_shared(LENT(&rules), (const uint8_t *)path, strlen(path), &shared_length));
+    must("shared", yarnhollow_shared(LENT(&rules), query, strlen(path), &shared_length, &looked_again));
     if (number == YARNHOLLOW_DONE)
         printf("%s: rule %u by %.*s", path, (unsigned)rule, (int)prefix_length, path);
     else
         printf("%s: %u, %s", path, (unsigned)number, meaning(number));
-    printf("; shares %zu bytes\n", shared_length);
+    printf("; shares %zu bytes; looked at %zu nodes, and at %zu\n", shared_length, looked, looked_again);
 }
 
 /* Every key under a prefix, in order. The walk's state is here: two buffers that change places. */
@@ -121,23 +122,27 @@ static void list(const char *prefix)
 static void store(const char *key, uint32_t rule)
 {
     uint32_t had_old = 0, old = 0;
+    size_t looked = 0;
 
-    must("insert", yarnhollow_insert(LENT(&rules), (const uint8_t *)key, strlen(key), rule, &had_old, &old));
+    must("insert", yarnhollow_insert(LENT(&rules), (const uint8_t *)key, strlen(key), rule, &had_old, &old, &looked));
     if (had_old)
-        printf("insert %s: was %u\n", key, (unsigned)old);
+        printf("insert %s: was %u", key, (unsigned)old);
     else
-        printf("insert %s: new\n", key);
+        printf("insert %s: new", key);
+    printf("; looked at %zu nodes\n", looked);
 }
 
 static void drop(const char *key)
 {
     uint32_t old = 0;
-    uint32_t number = yarnhollow_remove(LENT(&rules), (const uint8_t *)key, strlen(key), &old);
+    size_t looked = 0;
+    uint32_t number = yarnhollow_remove(LENT(&rules), (const uint8_t *)key, strlen(key), &old, &looked);
 
     if (number == YARNHOLLOW_DONE)
-        printf("remove %s: was %u\n", key, (unsigned)old);
+        printf("remove %s: was %u", key, (unsigned)old);
     else
-        printf("remove %s: %u, %s\n", key, (unsigned)number, meaning(number));
+        printf("remove %s: %u, %s", key, (unsigned)number, meaning(number));
+    printf("; looked at %zu nodes\n", looked);
 }
 
 /* A purge cuts out all that is under a prefix; what was cut out can still be looked at, and is then given up. */
@@ -172,9 +177,11 @@ static void write_back(void)
 int main(void)
 {
     uint8_t damaged[sizeof tree];
-    uint32_t rule = 7;
+    uint32_t rule = 7, number;
+    size_t looked = 7;
 
-    printf("get before make: %s, rule still %u\n", meaning(yarnhollow_get(LENT(&rules), NULL, 0, &rule)), (unsigned)rule);
+    number = yarnhollow_get(LENT(&rules), NULL, 0, &rule, &looked);
+    printf("get before make: %s, rule still %u, looked still %zu\n", meaning(number), (unsigned)rule, looked);
     must("make", yarnhollow_make(LENT(&rules)));
     load("image", tree, sizeof tree, numbers, 4);
     memcpy(damaged, tree, sizeof tree);

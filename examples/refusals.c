@@ -33,20 +33,20 @@ static void expect(uint32_t due, uint32_t number)
 /* What is no pool, and what is too long */
 static void one_and_two(void)
 {
-    expect(1, yarnhollow_get(NO_POOL, key, 1, NO32));
-    expect(1, yarnhollow_insert(NO_POOL, key, 1, 1, NO32, NO32));
-    expect(1, yarnhollow_remove(NO_POOL, key, 1, NO32));
-    expect(1, yarnhollow_longest(NO_POOL, key, 1, NO, NO32));
-    expect(1, yarnhollow_shared(NO_POOL, key, 1, NO));
+    expect(1, yarnhollow_get(NO_POOL, key, 1, NO32, NO));
+    expect(1, yarnhollow_insert(NO_POOL, key, 1, 1, NO32, NO32, NO));
+    expect(1, yarnhollow_remove(NO_POOL, key, 1, NO32, NO));
+    expect(1, yarnhollow_longest(NO_POOL, key, 1, NO, NO32, NO));
+    expect(1, yarnhollow_shared(NO_POOL, key, 1, NO, NO));
     expect(1, yarnhollow_next(NO_POOL, key, 1, NULL, 0, 0, NULL, 0, NO, NO32));
     expect(1, yarnhollow_counts(NO_POOL, NO, NO));
     expect(1, yarnhollow_write(NO_POOL, NULL, 0, NULL, 0, NO, NO));
     expect(1, yarnhollow_read(NO_POOL, NULL, 0, NULL, 0, NO));
-    expect(2, yarnhollow_get(LENT, key, sizeof key, NO32));
-    expect(2, yarnhollow_insert(LENT, key, sizeof key, 1, NO32, NO32));
-    expect(2, yarnhollow_remove(LENT, key, sizeof key, NO32));
-    expect(2, yarnhollow_longest(LENT, key, sizeof key, NO, NO32));
-    expect(2, yarnhollow_shared(LENT, key, sizeof key, NO));
+    expect(2, yarnhollow_get(LENT, key, sizeof key, NO32, NO));
+    expect(2, yarnhollow_insert(LENT, key, sizeof key, 1, NO32, NO32, NO));
+    expect(2, yarnhollow_remove(LENT, key, sizeof key, NO32, NO));
+    expect(2, yarnhollow_longest(LENT, key, sizeof key, NO, NO32, NO));
+    expect(2, yarnhollow_shared(LENT, key, sizeof key, NO, NO));
     expect(2, yarnhollow_next(LENT, key, sizeof key, NULL, 0, 0, NULL, 0, NO, NO32));
     expect(2, yarnhollow_next(LENT, key, 1, key, sizeof key, 1, NULL, 0, NO, NO32));
 }
@@ -58,14 +58,15 @@ static void others(void)
     static const uint8_t empty[] = {0, 0, 0, 0};
     static const uint32_t numbers[] = {1, 2};
     uint32_t had_old = 7;
-    size_t length = 7;
+    size_t length = 7, looked = 7;
 
-    expect(3, yarnhollow_get(LENT, key, 1, NO32));
-    expect(3, yarnhollow_remove(LENT, key, 1, NO32));
-    expect(3, yarnhollow_longest(LENT, key, 1, NO, NO32));
+    expect(3, yarnhollow_get(LENT, key, 1, NO32, &looked));
+    expect(1, (uint32_t)looked);
+    expect(3, yarnhollow_remove(LENT, key, 1, NO32, &looked));
+    expect(3, yarnhollow_longest(LENT, key, 1, NO, NO32, &looked));
     expect(3, yarnhollow_next(LENT, key, 1, NULL, 0, 0, NULL, 0, NO, NO32));
-    expect(0, yarnhollow_insert(LENT, key, 1, 1, &had_old, NO32));
-    expect(4, yarnhollow_insert(LENT, key, 2, 1, NO32, NO32));
+    expect(0, yarnhollow_insert(LENT, key, 1, 1, &had_old, NO32, &looked));
+    expect(4, yarnhollow_insert(LENT, key, 2, 1, NO32, NO32, NO));
     expect(5, yarnhollow_next(LENT, key, 1, NULL, 0, 0, NULL, 0, &length, NO32));
     expect(4, yarnhollow_read(LENT, tree, sizeof tree, numbers, 2, NO));
     expect(0, yarnhollow_read(LENT, empty, sizeof empty, NULL, 0, NO));

@@ -43,7 +43,7 @@
  *     0   done                                                       all that the call names (insert and read: see there)
  *     1   not a pool: wrong lengths, or damaged                      none
  *     2   a key, query, prefix or image path over 4,096 bytes        none
- *     3   not found; the walk has ended                              none
+ *     3   not found; the walk has ended                              `looked`, of get, remove and longest
  *     4   no room: the tree needs more nodes than there are slots    none
  *     5   an output is too short                                     the length needed; of write, both
  *     6   the image is cut short                                     offset of the record
@@ -57,6 +57,12 @@
  *
  * Where several refusals fit, the first in the order 1, 2, 3, 4, 5 is given; read has an order of its own, the order of
  * the image. Each is given exactly in its case.
+ *
+ * `looked`, the last result of get, insert, remove, longest and shared, is how many nodes the search compared its key
+ * with: the root, and of the children of each node gone into those up to the first whose first byte is not below the
+ * key's next byte. That one counts, also where it begins above and the search stops at it. So `looked` is 1 for the
+ * empty key, and at most 1 + 256 times the key's length. Insert and remove tell what they looked at in the tree as it
+ * was before them. It is stored with 0 and with 3, and not touched with any other number.
  *
  * 1 never speaks of a key or an image. Either the lengths are not YARNHOLLOW_LABELS(S) and YARNHOLLOW_WORDS(S) for one S,
  * which is an error of the calling program; or the memory does not hold what the store left there: no pool was made in it, or
@@ -138,40 +144,43 @@ uint32_t yarnhollow_make(uint8_t *labels, size_t labels_len, uint32_t *words, si
 uint32_t yarnhollow_clear(uint8_t *labels, size_t labels_len, uint32_t *words, size_t words_len);
 
 /*
- * The number stored at exactly this key.
+ * The number stored at exactly this key. `looked` is stored with 0 and 3.
  * Returns 0, 1, 2, or 3 where the key is not stored.
  */
 uint32_t yarnhollow_get(const uint8_t *labels, size_t labels_len, const uint32_t *words, size_t words_len,
-                        const uint8_t *key, size_t key_len, uint32_t *number);
+                        const uint8_t *key, size_t key_len, uint32_t *number, size_t *looked);
 
 /*
  * Stores a number at a key, in place of the old one, if there is one. With 0, `had_old` is 1 and `old` the old number, or
- * `had_old` is 0 and `old` is not stored.
+ * `had_old` is 0 and `old` is not stored. `looked` is stored with 0, and speaks of the tree before the key was put in.
  * Returns 0, 1, 2 or 4.
  */
 uint32_t yarnhollow_insert(uint8_t *labels, size_t labels_len, uint32_t *words, size_t words_len,
-                           const uint8_t *key, size_t key_len, uint32_t number, uint32_t *had_old, uint32_t *old);
+                           const uint8_t *key, size_t key_len, uint32_t number, uint32_t *had_old, uint32_t *old,
+                           size_t *looked);
 
 /*
- * Takes a key out, and gives the number that it had.
+ * Takes a key out, and gives the number that it had. `looked` is stored with 0 and 3, and speaks of the tree before.
  * Returns 0, 1, 2, or 3 where the key is not stored.
  */
 uint32_t yarnhollow_remove(uint8_t *labels, size_t labels_len, uint32_t *words, size_t words_len,
-                           const uint8_t *key, size_t key_len, uint32_t *old);
+                           const uint8_t *key, size_t key_len, uint32_t *old, size_t *looked);
 
 /*
- * The longest stored key that the query starts with: its length, and its number.
+ * The longest stored key that the query starts with: its length, and its number. `looked` is stored with 0 and 3.
  * Returns 0, 1, 2, or 3 where no stored key starts the query.
  */
 uint32_t yarnhollow_longest(const uint8_t *labels, size_t labels_len, const uint32_t *words, size_t words_len,
-                            const uint8_t *query, size_t query_len, size_t *prefix_length, uint32_t *number);
+                            const uint8_t *query, size_t query_len, size_t *prefix_length, uint32_t *number,
+                            size_t *looked);
 
 /*
  * The greatest number of leading bytes that the query shares with any stored key, 0 where nothing is stored.
+ * `looked` is stored with 0.
  * Returns 0, 1 or 2.
  */
 uint32_t yarnhollow_shared(const uint8_t *labels, size_t labels_len, const uint32_t *words, size_t words_len,
-                           const uint8_t *query, size_t query_len, size_t *shared_length);
+                           const uint8_t *query, size_t query_len, size_t *shared_length, size_t *looked);
 
 /*
  * A step of the walk under a prefix: the smallest stored key that starts with the prefix and is greater than the last one

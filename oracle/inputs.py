@@ -236,6 +236,9 @@ def examples():
     yield from gone(b'ab') + gone(b'ab')
     yield '# a = 1, abc = 2, from its image. Query abd: stored prefix of length 1, number 1, shared length 2; query b: 3, and 0.'
     yield from ['read 0 0c0000000f01000161030200026263 1,2'] + show(0) + list(look(0, [b'abd', b'b']))
+    yield '# b and d under the root. Behind the stroke, nodes looked at: "" 1; a stops at b, 2; c at d, 3; e 3.'
+    yield from build(0, [b'd', b'b']) + list(look(0, [b'', b'a', b'b', b'c', b'd', b'e']))
+    yield from ['insert 0 6162 7', 'remove 0 6162', 'remove 0 65']
     yield '# Cleared, the tree is empty.'
     yield from ['clear 0'] + show(0)
     yield '# Inserting gives the old number, if any.'

@@ -1,10 +1,10 @@
 //! The store behind its C interface (`include/yarnhollow.h`). Every call is expected to be done.
 #[link(name = "host", kind = "static")]
 unsafe extern "C" {
-    fn yarnhollow_get(labels: *const u8, labels_len: usize, words: *const u32, words_len: usize, key: *const u8, key_len: usize, number: &mut u32) -> u32;
-    fn yarnhollow_insert(labels: *mut u8, labels_len: usize, words: *mut u32, words_len: usize, key: *const u8, key_len: usize, number: u32, had_old: &mut u32, old: &mut u32) -> u32;
-    fn yarnhollow_remove(labels: *mut u8, labels_len: usize, words: *mut u32, words_len: usize, key: *const u8, key_len: usize, old: &mut u32) -> u32;
-    fn yarnhollow_longest(labels: *const u8, labels_len: usize, words: *const u32, words_len: usize, query: *const u8, query_len: usize, prefix_length: &mut usize, number: &mut u32) -> u32;
+    fn yarnhollow_get(labels: *const u8, labels_len: usize, words: *const u32, words_len: usize, key: *const u8, key_len: usize, number: &mut u32, looked: &mut usize) -> u32;
+    fn yarnhollow_insert(labels: *mut u8, labels_len: usize, words: *mut u32, words_len: usize, key: *const u8, key_len: usize, number: u32, had_old: &mut u32, old: &mut u32, looked: &mut usize) -> u32;
+    fn yarnhollow_remove(labels: *mut u8, labels_len: usize, words: *mut u32, words_len: usize, key: *const u8, key_len: usize, old: &mut u32, looked: &mut usize) -> u32;
+    fn yarnhollow_longest(labels: *const u8, labels_len: usize, words: *const u32, words_len: usize, query: *const u8, query_len: usize, prefix_length: &mut usize, number: &mut u32, looked: &mut usize) -> u32;
     fn yarnhollow_split(labels: *mut u8, labels_len: usize, words: *mut u32, words_len: usize, prefix: *const u8, prefix_len: usize, labels2: *mut u8, labels2_len: usize, words2: *mut u32, words2_len: usize) -> u32;
     fn yarnhollow_counts(labels: *const u8, labels_len: usize, words: *const u32, words_len: usize, keys: &mut usize, nodes: &mut usize) -> u32;
     fn yarnhollow_write(labels: *const u8, labels_len: usize, words: *const u32, words_len: usize, tree: *mut u8, tree_len: usize, numbers: *mut u32, numbers_len: usize, tree_length: &mut usize, numbers_length: &mut usize) -> u32;
@@ -44,8 +44,8 @@ impl Pool {
     }
 
     pub fn get(&self, key: &[u8]) -> u32 {
-        let mut number = 0;
-        done(unsafe { yarnhollow_get(self.labels.as_ptr(), self.labels.len(), self.words.as_ptr(), self.words.len(), key.as_ptr(), key.len(), &mut number) });
+        let (mut number, mut looked) = (0, 0);
+        done(unsafe { yarnhollow_get(self.labels.as_ptr(), self.labels.len(), self.words.as_ptr(), self.words.len(), key.as_ptr(), key.len(), &mut number, &mut looked) });
         number
     }
 
@@ -54,20 +54,20 @@ impl Pool {
     }
 
     pub fn longest(&self, query: &[u8]) -> (usize, u32) {
-        let (mut prefix_length, mut number) = (0, 0);
-        done(unsafe { yarnhollow_longest(self.labels.as_ptr(), self.labels.len(), self.words.as_ptr(), self.words.len(), query.as_ptr(), query.len(), &mut prefix_length, &mut number) });
+        let (mut prefix_length, mut number, mut looked) = (0, 0, 0);
+        done(unsafe { yarnhollow_longest(self.labels.as_ptr(), self.labels.len(), self.words.as_ptr(), self.words.len(), query.as_ptr(), query.len(), &mut prefix_length, &mut number, &mut looked) });
         (prefix_length, number)
     }
 
     pub fn insert(&mut self, key: &[u8], number: u32) -> Option<u32> {
-        let (mut had_old, mut old) = (0, 0);
-        done(unsafe { yarnhollow_insert(self.labels.as_mut_ptr(), self.labels.len(), self.words.as_mut_ptr(), self.words.len(), key.as_ptr(), key.len(), number, &mut had_old, &mut old) });
+        let (mut had_old, mut old, mut looked) = (0, 0, 0);
+        done(unsafe { yarnhollow_insert(self.labels.as_mut_ptr(), self.labels.len(), self.words.as_mut_ptr(), self.words.len(), key.as_ptr(), key.len(), number, &mut had_old, &mut old, &mut looked) });
         (had_old == 1).then_some(old)
     }
 
     pub fn remove(&mut self, key: &[u8]) -> u32 {
-        let mut old = 0;
-        done(unsafe { yarnhollow_remove(self.labels.as_mut_ptr(), self.labels.len(), self.words.as_mut_ptr(), self.words.len(), key.as_ptr(), key.len(), &mut old) });
+        let (mut old, mut looked) = (0, 0);
+        done(unsafe { yarnhollow_remove(self.labels.as_mut_ptr(), self.labels.len(), self.words.as_mut_ptr(), self.words.len(), key.as_ptr(), key.len(), &mut old, &mut looked) });
         old
     }
 

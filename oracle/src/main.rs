@@ -1,13 +1,16 @@
 //! The oracle: answers the commands of `box` by the Rust, on two maps named 0 and 1. Whatever the Rust has no notion of is
 //! answered by the thin layer here, from document 01: the key limit (2), no room in 128 slots (4), an output that is too short
-//! (5), and the numbers of a refused image (`strict.rs`). Commands that begin with `rust-` ask the Rust alone and change nothing.
+//! (5), the numbers of a refused image (`strict.rs`), and how many nodes a search looked at (`looked.rs`). Commands
+//! that begin with `rust-` ask the Rust alone and change nothing.
 mod ask;
 mod image;
+mod looked;
 mod records;
 mod strict;
 mod words;
 
 use image::{from_image, to_image};
+use looked::looked;
 use patricia_tree::PatriciaMap;
 use records::{nodes, pairs_agree, under};
 use std::io::{BufRead, BufReader, BufWriter, Write};
@@ -26,6 +29,11 @@ pub fn image_of(map: &Map) -> (Vec<u8>, Vec<u32>) {
     (pairs_agree(&made.tree), made.numbers)
 }
 
+/// The answer of a search, and how many nodes it looked at in the map as it stood.
+fn searched(map: &Map, key: &[u8], answer: String) -> String {
+    format!("{answer} /{}", looked(&to_image(map).tree, key))
+}
+
 fn insert(map: &mut Map, key: &[u8], n: u32) -> String {
     if key.len() > KEY_MAX {
         return "2".into();
@@ -36,48 +44,54 @@ fn insert(map: &mut Map, key: &[u8], n: u32) -> String {
     if nodes(&to_image(&made).tree) > SLOTS {
         return "4".into();
     }
-    *map = made;
-    match old {
+    let answer = match old {
         None => "0".into(),
         Some(old) => format!("0 {old}"),
-    }
+    };
+    let told = searched(map, key, answer);
+    *map = made;
+    told
 }
 
 fn get(map: &Map, key: &[u8]) -> String {
     if key.len() > KEY_MAX {
         return "2".into();
     }
-    match map.get(key) {
+    let answer = match map.get(key) {
         None => "3".into(),
         Some(n) => format!("0 {n}"),
-    }
+    };
+    searched(map, key, answer)
 }
 
 fn remove(map: &mut Map, key: &[u8]) -> String {
     if key.len() > KEY_MAX {
         return "2".into();
     }
-    match map.remove(key) {
+    let before = map.clone();
+    let answer = match map.remove(key) {
         None => "3".into(),
         Some(n) => format!("0 {n}"),
-    }
+    };
+    searched(&before, key, answer)
 }
 
 fn longest(map: &Map, key: &[u8]) -> String {
     if key.len() > KEY_MAX {
         return "2".into();
     }
-    match map.get_longest_common_prefix(key) {
+    let answer = match map.get_longest_common_prefix(key) {
         None => "3".into(),
         Some((part, n)) => format!("0 {} {n}", part.len()),
-    }
+    };
+    searched(map, key, answer)
 }
 
 fn shared(map: &Map, key: &[u8]) -> String {
     if key.len() > KEY_MAX {
         return "2".into();
     }
-    format!("0 {}", map.longest_common_prefix_len(key))
+    searched(map, key, format!("0 {}", map.longest_common_prefix_len(key)))
 }
 
 fn walk(map: &Map, prefix: &[u8]) -> String {

@@ -1,7 +1,7 @@
 //! The records of an image that the Rust has written: flags, label length, two bytes of level, label.
 
 /// The records, one after another.
-fn records(tree: &[u8]) -> Vec<&[u8]> {
+pub fn records(tree: &[u8]) -> Vec<&[u8]> {
     let mut left = tree;
     let mut all = Vec::new();
     while !left.is_empty() {

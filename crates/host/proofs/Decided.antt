@@ -13,14 +13,15 @@ use Rattle.pool.proofs.Decided.{outcome-decides}
 use Rattle.split.proofs.Decided.{both-decide}
 use Rattle.walk.specs.Walks.{stepOf}
 use Rattle.writer.proofs.Decided.{decided}
-use Rattle.host.specs.Host.{Returns, Changes, Inserts, Splits, keyWritten, NextGiven, Written}
+use Rattle.host.specs.Host.{Storing, Returns, Changes, Splits, keyWritten, NextGiven, Written}
 
 -- Two returns agree in the number and in each result.
 pub record Same (r s : ℕ) (xs ys : List ℕ) : Type 0 where
   pub number : r ≡ s
   pub values : xs ≡ ys
 
-pub returns-decided : {told : Told} {r s : ℕ} {rs xs ys : List ℕ} → Returns told r rs xs → Returns told s rs ys → Same r s xs ys
+pub returns-decided : {store : Storing} {told : Told} {r s : ℕ} {rs xs ys : List ℕ} → Returns store told r rs xs
+    → Returns store told s rs ys → Same r s xs ys
 returns-decided p q = record { number = p .number ∙ sym (q .number); values = p .values ∙ sym (q .values) }
 
 -- A changing call: the tree left behind too, and with any number but 0 every lent word and byte
@@ -35,12 +36,10 @@ left-decided o was is is′ e f p q =
     let d = outcome-decides was is is′ (outcomeTold o) (outcomeTold o) o p q in
     record { returned = e; tree = d .tree; kept = λ n. d .kept (λ z. n (f ∙ z)) }
 
-module _ {was is is′ : Lent} {o : Outcome} {r s : ℕ} {rs xs ys : List ℕ} where
-  pub changes-decided : Changes o r rs xs was is → Changes o s rs ys was is′ → SameChange r s xs ys is is′
-  changes-decided p q = left-decided o was is is′ (returns-decided (p .returns) (q .returns)) (p .returns .number) (p .left) (q .left)
-
-  pub inserts-decided : Inserts o r rs xs was is → Inserts o s rs ys was is′ → SameChange r s xs ys is is′
-  inserts-decided p q = left-decided o was is is′ (returns-decided (p .returns) (q .returns)) (p .returns .number) (p .left) (q .left)
+pub changes-decided : {store : Storing} {was is is′ : Lent} {o : Outcome} {r s : ℕ} {rs xs ys : List ℕ}
+    → Changes store o r rs xs was is → Changes store o s rs ys was is′ → SameChange r s xs ys is is′
+changes-decided {store} {was} {is} {is′} {o} p q =
+    left-decided o was is is′ (returns-decided (p .returns) (q .returns)) (p .returns .number) (p .left) (q .left)
 
 -- Split: the number, and both trees; with any number but 0 every word and byte of both pools
 pub record SameTrees (r s : ℕ) (is is₂ is′ is₂′ : Lent) : Type 0 where

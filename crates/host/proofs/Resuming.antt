@@ -14,7 +14,7 @@ use Rattle.tree.specs.Calls.{fits, lastFits, stepCall}
 use Rattle.walk.specs.declared.Walk.{Walk}
 use Rattle.walk.specs.declared.Step.{Step}
 use Rattle.walk.specs.Walks.{prefixOf, lastOf, Begins, HandedIn, Leaves, stepOf, Steps}
-use Rattle.host.specs.Host.{lastGiven, Returns, keyWritten, NextGiven}
+use Rattle.host.specs.Host.{over, lastGiven, Returns, keyWritten, NextGiven}
 use Rattle.host.specs.Resumed.{Resumes}
 use Rattle.host.proofs.Handed.{returned}
 use borrow.Author.Tests.{leb-true}
@@ -96,7 +96,8 @@ module _ {p : Key} {l : Option Key} {w : Walk} (s : Resumes p l w) where
     same-written none h = refl
     same-written (some t) h = written-by t (fits p) (lastFits l) refl refl h
 
-  pub next-given : {o : Option Tree} {x : Step} {r : ℕ} {rs rs′ out out′ : List ℕ} → Steps o w x out out′ → Returns (steppedTold (x .answer)) r rs rs′ → NextGiven o p l r rs rs′ out out′
+  pub next-given : {o : Option Tree} {x : Step} {r : ℕ} {rs rs′ out out′ : List ℕ} → Steps o w x out out′
+      → Returns over (steppedTold (x .answer)) r rs rs′ → NextGiven o p l r rs rs′ out out′
   next-given {o} {x} {r} {rs} {rs′} {out} {out′} g h =
       let back = returned (g .said ∙ same-call o (length out)) h in
       record {

@@ -6,7 +6,8 @@ ghost use mathlib.Core.List.{[], _∷_};
 ghost use Rattle.tree.specs.Calls.{makeCall, clearCall, getCall, insertCall, removeCall, longestCall, sharedCall};
 ghost use Rattle.tree.specs.Calls.{splitCall, countsCall, readCall};
 ghost use Rattle.pool.specs.Lent.{before, after, treeIn, sizeIn, roomIn};
-ghost use Rattle.host.specs.Host.{Returns, Changes, Inserts, Splits, lastGiven, NextGiven, Written};
+ghost use Rattle.host.specs.Host.{over, overLast, overFlagged, Returns, Changes, Splits};
+ghost use Rattle.host.specs.Host.{lastGiven, NextGiven, Written};
 ghost use Rattle.host.specs.Resumed.{Resumes};
 use tree::RuleNo;
 use walk::Walk;
@@ -17,7 +18,7 @@ mod results;
 pub extern "C" fn yarnhollow_make(labels: &mut [u8], words: &mut [u32]) -> u32
     ensures { λ r. do
       let was = before labels words
-      ⌜ Changes (makeCall (sizeIn was)) r [] [] was (after labels words) ⌝ }
+      ⌜ Changes over (makeCall (sizeIn was)) r [] [] was (after labels words) ⌝ }
 {
     pool::make(labels, words).number()
 }
@@ -26,19 +27,27 @@ pub extern "C" fn yarnhollow_make(labels: &mut [u8], words: &mut [u32]) -> u32
 pub extern "C" fn yarnhollow_clear(labels: &mut [u8], words: &mut [u32]) -> u32
     ensures { λ r. do
       let was = before labels words
-      ⌜ Changes (clearCall (treeIn was)) r [] [] was (after labels words) ⌝ }
+      ⌜ Changes over (clearCall (treeIn was)) r [] [] was (after labels words) ⌝ }
 {
     pool::clear(labels, words).number()
 }
 
 #[no_mangle]
-pub extern "C" fn yarnhollow_get(labels: &[u8], words: &[u32], key: &[u8], number: &mut u32) -> u32
+pub extern "C" fn yarnhollow_get(
+    labels: &[u8],
+    words: &[u32],
+    key: &[u8],
+    number: &mut u32,
+    looked: &mut usize,
+) -> u32
     ensures { λ r. do
       let t = treeIn (before labels words)
-      ⌜ Returns (getCall t (now (key .entry))) r (now (number .entry) ∷ []) (now (number .exit) ∷ []) ⌝ }
+      let results = now (number .entry) ∷ now (looked .entry) ∷ []
+      let results′ = now (number .exit) ∷ now (looked .exit) ∷ []
+      ⌜ Returns overLast (getCall t (now (key .entry))) r results results′ ⌝ }
 {
     let answer = search::get(labels, words, key);
-    results::store_got(answer, number);
+    results::store_got(answer, number, looked);
     answer.number()
 }
 
@@ -50,16 +59,17 @@ pub extern "C" fn yarnhollow_insert(
     number: u32,
     had_old: &mut u32,
     old: &mut u32,
+    looked: &mut usize,
 ) -> u32
     ensures { λ r. do
       let was = before labels words
       let call = insertCall (treeIn was) (roomIn was) (now (key .entry)) number
-      let results = now («had_old» .entry) ∷ now (old .entry) ∷ []
-      let results′ = now («had_old» .exit) ∷ now (old .exit) ∷ []
-      ⌜ Inserts call r results results′ was (after labels words) ⌝ }
+      let results = now («had_old» .entry) ∷ now (old .entry) ∷ now (looked .entry) ∷ []
+      let results′ = now («had_old» .exit) ∷ now (old .exit) ∷ now (looked .exit) ∷ []
+      ⌜ Changes overFlagged call r results results′ was (after labels words) ⌝ }
 {
     let answer = insert::insert(labels, words, key, RuleNo(number));
-    results::store_inserted(answer, had_old, old);
+    results::store_inserted(answer, had_old, old, looked);
     answer.number()
 }
 
@@ -69,14 +79,17 @@ pub extern "C" fn yarnhollow_remove(
     words: &mut [u32],
     key: &[u8],
     old: &mut u32,
+    looked: &mut usize,
 ) -> u32
     ensures { λ r. do
       let was = before labels words
       let call = removeCall (treeIn was) (now (key .entry))
-      ⌜ Changes call r (now (old .entry) ∷ []) (now (old .exit) ∷ []) was (after labels words) ⌝ }
+      let results = now (old .entry) ∷ now (looked .entry) ∷ []
+      let results′ = now (old .exit) ∷ now (looked .exit) ∷ []
+      ⌜ Changes overLast call r results results′ was (after labels words) ⌝ }
 {
     let answer = remove::remove(labels, words, key);
-    results::store_got(answer, old);
+    results::store_got(answer, old, looked);
     answer.number()
 }
 
@@ -87,15 +100,16 @@ pub extern "C" fn yarnhollow_longest(
     query: &[u8],
     prefix_length: &mut usize,
     number: &mut u32,
+    looked: &mut usize,
 ) -> u32
     ensures { λ r. do
       let t = treeIn (before labels words)
-      let results = now («prefix_length» .entry) ∷ now (number .entry) ∷ []
-      let results′ = now («prefix_length» .exit) ∷ now (number .exit) ∷ []
-      ⌜ Returns (longestCall t (now (query .entry))) r results results′ ⌝ }
+      let results = now («prefix_length» .entry) ∷ now (number .entry) ∷ now (looked .entry) ∷ []
+      let results′ = now («prefix_length» .exit) ∷ now (number .exit) ∷ now (looked .exit) ∷ []
+      ⌜ Returns overLast (longestCall t (now (query .entry))) r results results′ ⌝ }
 {
     let answer = search::longest(labels, words, query);
-    results::store_prefixed(answer, prefix_length, number);
+    results::store_prefixed(answer, prefix_length, number, looked);
     answer.number()
 }
 
@@ -105,15 +119,16 @@ pub extern "C" fn yarnhollow_shared(
     words: &[u32],
     query: &[u8],
     shared_length: &mut usize,
+    looked: &mut usize,
 ) -> u32
     ensures { λ r. do
       let t = treeIn (before labels words)
-      let results = now («shared_length» .entry) ∷ []
-      let results′ = now («shared_length» .exit) ∷ []
-      ⌜ Returns (sharedCall t (now (query .entry))) r results results′ ⌝ }
+      let results = now («shared_length» .entry) ∷ now (looked .entry) ∷ []
+      let results′ = now («shared_length» .exit) ∷ now (looked .exit) ∷ []
+      ⌜ Returns overLast (sharedCall t (now (query .entry))) r results results′ ⌝ }
 {
     let answer = search::shared(labels, words, query);
-    results::store_sharing(answer, shared_length);
+    results::store_sharing(answer, shared_length, looked);
     answer.number()
 }
 
@@ -181,7 +196,7 @@ pub extern "C" fn yarnhollow_counts(
       let t = treeIn (before labels words)
       let results = now (keys .entry) ∷ now (nodes .entry) ∷ []
       let results′ = now (keys .exit) ∷ now (nodes .exit) ∷ []
-      ⌜ Returns (countsCall t) r results results′ ⌝ }
+      ⌜ Returns over (countsCall t) r results results′ ⌝ }
 {
     let answer = pool::counts(labels, words);
     results::store_counted(answer, keys, nodes);
@@ -219,7 +234,7 @@ pub extern "C" fn yarnhollow_read(
     ensures { λ r. do
       let was = before labels words
       let call = readCall (sizeIn was) (now (tree .entry)) (now (numbers .entry))
-      ⌜ Changes call r (now (offset .entry) ∷ []) (now (offset .exit) ∷ []) was (after labels words) ⌝ }
+      ⌜ Changes over call r (now (offset .entry) ∷ []) (now (offset .exit) ∷ []) was (after labels words) ⌝ }
 {
     let answer = reader::read(labels, words, tree, numbers);
     results::store_loaded(answer, offset);

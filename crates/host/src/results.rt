@@ -1,9 +1,10 @@
 // What an answer tells besides its number, stored in the results that a C program lends. A result for which no value is told
 // is not touched: each case that tells none is named, and does nothing.
 ghost use mathlib.Core.Path.{_≡_};
+ghost use mathlib.Core.List.{[], _∷_};
 ghost use Rattle.tree.specs.Told.{gotTold, insertedTold, prefixedTold, sharingTold};
 ghost use Rattle.tree.specs.Told.{steppedTold, countedTold, writtenTold, loadedTold};
-ghost use Rattle.host.specs.Host.{given, GivesTwo, flagged};
+ghost use Rattle.host.specs.Host.{given, GivesTwo, overLast, overFlagged, HoldTwo, HoldThree};
 use tree::Counted;
 use tree::Got;
 use tree::Inserted;
@@ -13,28 +14,39 @@ use tree::Sharing;
 use tree::Stepped;
 use tree::Written;
 
-pub fn store_got(answer: Got, number: &mut u32)
-    ensures { λ _. ⌜ now (number .exit) ≡ given (gotTold answer) 0 (now (number .entry)) ⌝ }
+// How many nodes were looked at is told with 0 and with 3, so the last result of a search is stored with both.
+pub fn store_got(answer: Got, number: &mut u32, looked: &mut usize)
+    ensures { λ _. do
+      let due = overLast (gotTold answer .values) (now (number .entry) ∷ now (looked .entry) ∷ [])
+      ⌜ HoldTwo due (now (number .exit)) (now (looked .exit)) ⌝ }
 {
     match answer {
-        Got::Number(v) => *number = v.0,
+        Got::Number(v, n) => {
+            *number = v.0;
+            *looked = n.0;
+        }
         Got::NotPool => {}
         Got::TooLong => {}
-        Got::NotFound => {}
+        Got::NotFound(n) => *looked = n.0,
     }
 }
 
 // Whether insert found an old number is told only where it is done.
-pub fn store_inserted(answer: Inserted, had_old: &mut u32, old: &mut u32)
+pub fn store_inserted(answer: Inserted, had_old: &mut u32, old: &mut u32, looked: &mut usize)
     ensures { λ _. do
-      let told = flagged (insertedTold answer)
-      ⌜ GivesTwo told (now («had_old» .entry)) (now (old .entry)) (now («had_old» .exit)) (now (old .exit)) ⌝ }
+      let results = now («had_old» .entry) ∷ now (old .entry) ∷ now (looked .entry) ∷ []
+      let due = overFlagged (insertedTold answer .values) results
+      ⌜ HoldThree due (now («had_old» .exit)) (now (old .exit)) (now (looked .exit)) ⌝ }
 {
     match answer {
-        Inserted::New => *had_old = 0,
-        Inserted::Replaced(v) => {
+        Inserted::New(n) => {
+            *had_old = 0;
+            *looked = n.0;
+        }
+        Inserted::Replaced(v, n) => {
             *had_old = 1;
             *old = v.0;
+            *looked = n.0;
         }
         Inserted::NotPool => {}
         Inserted::TooLong => {}
@@ -42,28 +54,39 @@ pub fn store_inserted(answer: Inserted, had_old: &mut u32, old: &mut u32)
     }
 }
 
-pub fn store_prefixed(answer: Prefixed, prefix_length: &mut usize, number: &mut u32)
+pub fn store_prefixed(
+    answer: Prefixed,
+    prefix_length: &mut usize,
+    number: &mut u32,
+    looked: &mut usize,
+)
     ensures { λ _. do
-      let told = prefixedTold answer
-      let n = «prefix_length»
-      ⌜ GivesTwo told (now (n .entry)) (now (number .entry)) (now (n .exit)) (now (number .exit)) ⌝ }
+      let results = now («prefix_length» .entry) ∷ now (number .entry) ∷ now (looked .entry) ∷ []
+      let due = overLast (prefixedTold answer .values) results
+      ⌜ HoldThree due (now («prefix_length» .exit)) (now (number .exit)) (now (looked .exit)) ⌝ }
 {
     match answer {
-        Prefixed::Longest(n, v) => {
-            *prefix_length = n;
+        Prefixed::Longest(m, v, n) => {
+            *prefix_length = m;
             *number = v.0;
+            *looked = n.0;
         }
         Prefixed::NotPool => {}
         Prefixed::TooLong => {}
-        Prefixed::NotFound => {}
+        Prefixed::NotFound(n) => *looked = n.0,
     }
 }
 
-pub fn store_sharing(answer: Sharing, shared_length: &mut usize)
-    ensures { λ _. ⌜ now («shared_length» .exit) ≡ given (sharingTold answer) 0 (now («shared_length» .entry)) ⌝ }
+pub fn store_sharing(answer: Sharing, shared_length: &mut usize, looked: &mut usize)
+    ensures { λ _. do
+      let due = overLast (sharingTold answer .values) (now («shared_length» .entry) ∷ now (looked .entry) ∷ [])
+      ⌜ HoldTwo due (now («shared_length» .exit)) (now (looked .exit)) ⌝ }
 {
     match answer {
-        Sharing::Length(n) => *shared_length = n,
+        Sharing::Length(m, n) => {
+            *shared_length = m;
+            *looked = n.0;
+        }
         Sharing::NotPool => {}
         Sharing::TooLong => {}
     }

@@ -39,12 +39,12 @@ use Rattle.search.proofs.Stop.{the-type}
 use Rattle.search.specs.declared.Descent.{Descent}
 use Rattle.search.specs.Landing.{Ends, Place, PlaceOf}
 use Rattle.search.proofs.Places.{plug-stands, plug-wf, plug-nodes, nodes-node, leads-drop, leads-length}
-use Rattle.search.proofs.Answers.{Known, tree, tree-is, holds, place, gotAt, get-place, place-within}
-use Rattle.insert.specs.Splices.{leafBares, Grows, Opens, Cuts, Forks, forkBares, forkSide, forkWas, total, Placed, full, leafNodes, KeyLeft, newNodes}
+use Rattle.search.proofs.Answers.{Known, tree, tree-is, holds, looked-is, place, gotAt, get-place, place-within}
+use Rattle.insert.specs.Splices.{leafBares, Grows, Opens, Cuts, Forks, setBares, forkBares, forkSide, forkWas, total, Placed, leafNodes, KeyLeft, newNodes}
 use Rattle.insert.proofs.Steps.{Step, front-whole, front-cut, back-cut, gap-step, same-step, inside-step, before-step, behind-step}
 use Rattle.insert.proofs.Leaves.{leaf-length}
 use Rattle.insert.proofs.Room.{new-at, fork-count}
-use Rattle.insert.proofs.Grown.{Splits, placed-meets}
+use Rattle.insert.proofs.Grown.{Splits, placed-meets, full-meets}
 
 -- Behind the forest in its place comes nothing, or a slot that starts no deeper.
 plug-stops : (ws bs : List ℕ) (n : ℕ) (C : Context) (f : Forest) → Stands ws bs 0 (plug C f) 1 → n ≡ 1 + nodesF (plug C f) → Stops ws n (depth C) (before C + nodesF f)
@@ -182,9 +182,9 @@ wasAt ws bs key at above (Stop.Inside m) = 1
 wasAt ws bs key at above (Stop.Fork m) = forkWas ws at (forkSide ws bs at m (left key (above + m)))
 
 abbrev pub nowAt : (ws bs : List ℕ) (key : Key) (v at above : ℕ) → Stop → List Bare
-nowAt ws bs key v at above Stop.Root = frontOf (lenOf ws at) (some v) (bareAt ws bs at) ∷ []
+nowAt ws bs key v at above Stop.Root = setBares ws bs at v
 nowAt ws bs key v at above Stop.Gap = leafBares above (left key above) v
-nowAt ws bs key v at above Stop.Same = frontOf (lenOf ws at) (some v) (bareAt ws bs at) ∷ []
+nowAt ws bs key v at above Stop.Same = setBares ws bs at v
 nowAt ws bs key v at above (Stop.Inside m) = frontOf m (some v) (bareAt ws bs at) ∷ backOf m (bareAt ws bs at) ∷ []
 nowAt ws bs key v at above (Stop.Fork m) = forkBares ws bs at m (left key (above + m)) v (forkSide ws bs at m (left key (above + m)))
 
@@ -451,33 +451,44 @@ module _ {ws bs key : List ℕ} {d : Descent} (w : Known ws bs key d) where
     pub fork-slots : (m : ℕ) → d .stop ≡ Stop.Fork m → k ≡ 1 + leafNodes (length (left key (d .above + m)))
     fork-slots m e = rw (left-length key (d .above + m)) (count ∙ new-at (d .above) (length key) e)
 
+  -- what the call tells where w is the number of its slot
+  abbrev OldTold : Told → Num → Type 0
+  OldTold told w = told ≡ done (numbersW w (d .looked .0 ∷ []))
+
   pub meets : Bytes key → (v : ℕ) (s : Stop) → d .stop ≡ s → (vs cs : List ℕ) (told : Told)
-      → Placed ws bs vs cs (d .at .0) (wasAt ws bs key (d .at .0) (d .above) s) (nowAt ws bs key v (d .at .0) (d .above) s) (done (numbersW (gotAt s (numAt ws (d .at .0))) [])) told
+      → OldTold told (gotAt s (numAt ws (d .at .0)))
+      → let at = d .at .0 in
+      Placed ws bs vs cs at (wasAt ws bs key at (d .above) s) (nowAt ws bs key v at (d .above) s)
       → Meets (insertCall (poolTree ws bs) (slotsIn bs) key v) told ws bs vs cs
-  meets by v s e vs cs told x =
+  meets by v s e vs cs told y x =
       let h = holds w in
       let p = place w s e in
       let g = get-place h key s (d .at .0) (d .parent .0) (d .above) p in
-      placed-meets (tree-is w) h key v by (w .short) vs cs (done (numbersW (gotAt s (numAt ws (d .at .0))) [])) told
-      (splits h v key s (d .at .0) (d .parent .0) (d .above) p) (ap (λ (n : Num). done (numbersW n [])) (sym g)) x
+      let s′ = splits h v key s (d .at .0) (d .parent .0) (d .above) p in
+      placed-meets (tree-is w) h key v by (w .short) s′ vs cs told (rw (g, ← looked-is w) y) x
 
   -- a number is set
+  abbrev SetThere : (v : ℕ) (vs cs : List ℕ) → Type 0
+  SetThere v vs cs = Placed ws bs vs cs (d .at .0) 1 (setBares ws bs (d .at .0) v)
+
   set-there : Bytes key → (v : ℕ) (s : Stop) → d .stop ≡ s → AtNumber s → (vs cs : List ℕ) (told : Told)
-      → Placed ws bs vs cs (d .at .0) 1 (frontOf (lenOf ws (d .at .0)) (some v) (bareAt ws bs (d .at .0)) ∷ []) (done (numbersW (numAt ws (d .at .0)) [])) told
-      → Meets (insertCall (poolTree ws bs) (slotsIn bs) key v) told ws bs vs cs
+      → OldTold told (numAt ws (d .at .0))
+      → SetThere v vs cs → Meets (insertCall (poolTree ws bs) (slotsIn bs) key v) told ws bs vs cs
   unfolding gotAt
-  set-there by v Stop.Root e h vs cs told x = meets by v Stop.Root e vs cs told x
-  set-there by v Stop.Gap e h vs cs told x = absurd h
-  set-there by v Stop.Same e h vs cs told x = meets by v Stop.Same e vs cs told x
-  set-there by v (Stop.Inside m) e h vs cs told x = absurd h
-  set-there by v (Stop.Fork m) e h vs cs told x = absurd h
+  set-there by v Stop.Root e h vs cs told y x = meets by v Stop.Root e vs cs told y x
+  set-there by v Stop.Gap e h vs cs told y x = absurd h
+  set-there by v Stop.Same e h vs cs told y x = meets by v Stop.Same e vs cs told y x
+  set-there by v (Stop.Inside m) e h vs cs told y x = absurd h
+  set-there by v (Stop.Fork m) e h vs cs told y x = absurd h
 
   pub set-meets : OneOf (0 ∷ 2 ∷ []) (tagOf the-type (d .stop)) → Bytes key → (v : ℕ) {vs cs : List ℕ} {told : Told}
-      → Placed ws bs vs cs (d .at .0) 1 (frontOf (lenOf ws (d .at .0)) (some v) (bareAt ws bs (d .at .0)) ∷ []) (done (numbersW (numAt ws (d .at .0)) [])) told
+      → OldTold told (numAt ws (d .at .0)) → SetThere v vs cs
       → Meets (insertCall (poolTree ws bs) (slotsIn bs) key v) told ws bs vs cs
-  set-meets h by v {vs} {cs} {told} x = set-there by v (d .stop) refl (at-number (d .stop) h) vs cs told x
+  set-meets h by v {vs} {cs} {told} y x = set-there by v (d .stop) refl (at-number (d .stop) h) vs cs told y x
 
-  -- there is none
+  -- there is no room
   pub no-room : Bytes key → (v n k : ℕ) → n ≡ nodesOf ws → k ≡ newNodes (d .stop) (d .above) (length key) → length bs / 255 < n + k
       → Meets (insertCall (poolTree ws bs) (slotsIn bs) key v) (refusal 4) ws bs ws bs
-  no-room by v n k e f h = meets by v (d .stop) refl ws bs (refusal 4) (full refl (omega (arith, total-at v (d .stop) refl)) refl refl)
+  no-room by v n k e f h =
+      let s = splits (holds w) v key (d .stop) (d .at .0) (d .parent .0) (d .above) (place w (d .stop) refl) in
+      full-meets (tree-is w) (holds w) key v by (w .short) s (omega (arith, total-at v (d .stop) refl))

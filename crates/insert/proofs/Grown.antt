@@ -11,7 +11,7 @@ use borrow.Author.Tests.{le-leb, lt-leb}
 use Rattle.tree.specs.Key.{Key, Bytes, keyMax}
 use Rattle.tree.specs.Tree.{Tree, nodesF, nodesT}
 use Rattle.tree.specs.Image.{numbersW}
-use Rattle.tree.specs.Search.{getT}
+use Rattle.tree.specs.Search.{getT, lookedT}
 use Rattle.tree.specs.Insert.{insertT}
 use Rattle.tree.specs.Told.{Told, done, refusal}
 use Rattle.tree.specs.Calls.{insertCall}
@@ -30,7 +30,7 @@ use Rattle.pool.proofs.Answers.{no-rule}
 use Rattle.pool.proofs.Ruled.{rule-tree}
 use Rattle.splice.proofs.Bares.{baresF-length, holds-bares, whole-tree}
 use Rattle.search.proofs.Answers.{fits-not, fits-well}
-use Rattle.insert.specs.Splices.{Replaced, total, Placed, full, grown}
+use Rattle.insert.specs.Splices.{Replaced, total, Placed}
 
 baresT-length : (t : Tree) → length (baresT t) ≡ nodesT t
 unfolding baresT nodesT
@@ -118,17 +118,27 @@ module _ {ws bs : List ℕ} {t : Tree} (is : poolTree ws bs ≡ some t) (h : Hol
         wf = insert-wf t key v (h .wf) bytes short;
       })
 
-  pub placed-meets : {at was : ℕ} {xs : List Bare} (vs cs : List ℕ) (said told : Told) → Splits t (insertT t key v) at was xs → said ≡ done (numbersW (getT t key) [])
-      → Placed ws bs vs cs at was xs said told → Meets (insertCall (poolTree ws bs) (slotsIn bs) key v) told ws bs vs cs
-  unfolding insertCall
-  placed-meets vs cs said told s y (full e n a b) =
-      let z : leb (nodesT (insertT t key v)) (slotsIn bs) ≡ false = lt-leb (nodesT (insertT t key v)) (slotsIn bs) (omega (arith, total-is h s)) in
-      rw (is, fits-well key short, insertCall, z) (record { said = e; words = a; labels = b })
-  placed-meets vs cs said told s y (grown us e n r d) =
-      let z : leb (nodesT (insertT t key v)) (slotsIn bs) ≡ true = le-leb (nodesT (insertT t key v)) (slotsIn bs) (omega (arith, total-is h s)) in
-      let l = lengths-stay ws bs vs cs (h .slots) (d .len ∙ r .lenW) (r .lenB) (h .lengths) in
-      rw (is, fits-well key short, insertCall, z)
-      (record { said = e ∙ y; tree = grown-tree us vs cs s r d n; slots = slots-of vs cs (h .slots) l ∙ sym (slots-of ws bs (h .slots) (h .lengths)) })
+  module _ {at was : ℕ} {xs : List Bare} (s : Splits t (insertT t key v) at was xs) where
+    pub placed-meets : (vs cs : List ℕ) (told : Told) → told ≡ done (numbersW (getT t key) (lookedT t key ∷ []))
+        → Placed ws bs vs cs at was xs → Meets (insertCall (poolTree ws bs) (slotsIn bs) key v) told ws bs vs cs
+    unfolding insertCall
+    placed-meets vs cs told e x =
+        let r = x .replaced in
+        let d = x .settled in
+        let z : leb (nodesT (insertT t key v)) (slotsIn bs) ≡ true =
+        le-leb (nodesT (insertT t key v)) (slotsIn bs) (omega (arith, total-is h s, x .fits)) in
+        let l = lengths-stay ws bs vs cs (h .slots) (d .len ∙ r .lenW) (r .lenB) (h .lengths) in
+        let slots = slots-of vs cs (h .slots) l ∙ sym (slots-of ws bs (h .slots) (h .lengths)) in
+        rw (is, fits-well key short, insertCall, z)
+        (record { said = e; tree = grown-tree (x .spliced) vs cs s r d (x .fits); slots = slots })
+
+    pub full-meets : slotsIn bs < total ws was xs
+        → Meets (insertCall (poolTree ws bs) (slotsIn bs) key v) (refusal 4) ws bs ws bs
+    unfolding insertCall
+    full-meets n =
+        let z : leb (nodesT (insertT t key v)) (slotsIn bs) ≡ false =
+        lt-leb (nodesT (insertT t key v)) (slotsIn bs) (omega (arith, total-is h s)) in
+        rw (is, fits-well key short, insertCall, z) (record { said = refl; words = refl; labels = refl })
 
 -- Refusals 1 and 2
 module _ (ws bs key : List ℕ) (v : ℕ) where

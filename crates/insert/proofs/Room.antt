@@ -10,7 +10,7 @@ use lib.ListN.{length, getD, length-append}
 use Rattle.tree.specs.Key.{Key}
 use Rattle.tree.specs.Map.{Num}
 use Rattle.tree.specs.Image.{numbersW}
-use Rattle.tree.specs.Told.{Told, done}
+use Rattle.tree.specs.Told.{done}
 use Rattle.slots.specs.Layout.{bytesFor, nodesOf, lenOf, spanOf, labelOf, startOf}
 use Rattle.pool.specs.Rule.{PoolRule}
 use Rattle.slots.specs.Bare.{Bare, bareAt, baresFrom, Filled, frontOf, backOf}
@@ -20,7 +20,7 @@ use Rattle.label.proofs.Moves.{by-eq}
 use Rattle.slots.proofs.Runs.{run-length}
 use Rattle.splice.proofs.Spans.{covers-linked, covers-same, covers-to, rule-rests}
 use Rattle.search.specs.declared.Stop.{Stop}
-use Rattle.insert.specs.Splices.{leafNodes, KeyLeft, newNodes, leafBares, Grows, Opens, Forks, Replaced, forkBares, forkSide, forkWas, total, Placed, grown}
+use Rattle.insert.specs.Splices.{leafNodes, KeyLeft, newNodes, leafBares, Grows, Opens, Forks, Replaced, forkBares, forkSide, forkWas, total, Placed}
 use Rattle.insert.proofs.Leaves.{run-one, leaf-length}
 use Rattle.insert.proofs.Spans.{Like, like}
 use Rattle.insert.proofs.Places.{upper-is}
@@ -33,15 +33,17 @@ pub new-at : {s s′ : Stop} (above len : ℕ) → s ≡ s′ → newNodes s abo
 new-at above len e = ap (λ (x : Stop). newNodes x above len) e
 
 -- Of n slots in use and k new ones, `was` were there before in the place of xs.
-module _ {ws bs : List ℕ} {n k : ℕ} (g : Grows ws bs n k) {at was : ℕ} {xs : List Bare} (said : Told) (count : length xs ≡ was + k) where
-  pub placed-grown : {us vs cs : List ℕ} → Replaced ws bs us cs at was xs → Settled us vs (n + k) → Placed ws bs vs cs at was xs said said
+module _ {ws bs : List ℕ} {n k : ℕ} (g : Grows ws bs n k) {at was : ℕ} {xs : List Bare}
+    (count : length xs ≡ was + k) where
+  pub placed-grown : {us vs cs : List ℕ} → Replaced ws bs us cs at was xs → Settled us vs (n + k)
+      → Placed ws bs vs cs at was xs
   placed-grown {us} {vs} {cs} r s =
       let e : n + k ≡ total ws was xs = omega (arith, g .nodes) in
-      grown us refl (omega (arith, g .room)) r (rw e at s)
+      record { spliced = us; fits = omega (arith, g .room); replaced = r; settled = rw e at s }
 
 pub leaf-placed : {ws bs us vs cs : List ℕ} {at n k s : ℕ} {q : Key} (v : ℕ) → Grows ws bs n k → Opens ws bs at s q → k ≡ leafNodes (length q)
-    → Replaced ws bs us cs at 0 (leafBares s q v) → Settled us vs (n + k) → Placed ws bs vs cs at 0 (leafBares s q v) (done []) (done [])
-leaf-placed {s = s} {q} v g o kn r d = placed-grown g (done []) (omega (arith, leaf-length s q v (o .left))) r d
+    → Replaced ws bs us cs at 0 (leafBares s q v) → Settled us vs (n + k) → Placed ws bs vs cs at 0 (leafBares s q v)
+leaf-placed {s = s} {q} v g o kn r d = placed-grown g (omega (arith, leaf-length s q v (o .left))) r d
 
 -- A fork adds the upper part and the leaf.
 pub fork-count : (ws bs : List ℕ) (at m : ℕ) (q : Key) (v : ℕ) (b : Bool) → 1 ≤ length q → 1 ≤ spanOf ws at
@@ -56,9 +58,10 @@ fork-count ws bs at m q v false h s =
 
 pub fork-placed : {ws bs us vs cs : List ℕ} {at n k m : ℕ} {q : Key} (v : ℕ) → Grows ws bs n k → Forks ws at m q → k ≡ 1 + leafNodes (length q)
     → let b = forkSide ws bs at m q in
-    Replaced ws bs us cs at (forkWas ws at b) (forkBares ws bs at m q v b) → Settled us vs (n + k) → Placed ws bs vs cs at (forkWas ws at b) (forkBares ws bs at m q v b) (done []) (done [])
+    Replaced ws bs us cs at (forkWas ws at b) (forkBares ws bs at m q v b) → Settled us vs (n + k)
+    → Placed ws bs vs cs at (forkWas ws at b) (forkBares ws bs at m q v b)
 fork-placed {ws} {bs} {at = at} {m = m} {q = q} v g f kn r d =
-    placed-grown g (done []) (omega (arith, fork-count ws bs at m q v (forkSide ws bs at m q) (f .left) (f .span))) r d
+    placed-grown g (omega (arith, fork-count ws bs at m q v (forkSide ws bs at m q) (f .left) (f .span))) r d
 
 -- a fork on the side that the bytes say
 pub fork-on : (ws bs vs cs : List ℕ) (at m : ℕ) (q : Key) (v : ℕ) (b r : Bool) → r ≡ forkSide ws bs at m q → r ≡ b
@@ -83,14 +86,15 @@ replaced-one ws bs vs cs at x h l f =
       back = λ i o. f .others (at + 1 + i) (λ q. omega arith) (omega arith);
     }
 
--- The old number, told
-pub told-new : (w : Num) → none ≡ w → done [] ≡ done (numbersW w [])
-unfolding numbersW
-told-new w e = rw (← e) refl
+-- The old number, told before the count
+module _ (w : Num) (n : ℕ) where
+  pub told-new : none ≡ w → done (n ∷ []) ≡ done (numbersW w (n ∷ []))
+  unfolding numbersW
+  told-new e = rw (← e) refl
 
-pub told-old : (w : Num) (v : ℕ) → some v ≡ w → done (v ∷ []) ≡ done (numbersW w [])
-unfolding numbersW
-told-old w v e = rw (← e) refl
+  pub told-old : (v : ℕ) → some v ≡ w → done (v ∷ n ∷ []) ≡ done (numbersW w (n ∷ []))
+  unfolding numbersW
+  told-old v e = rw (← e) refl
 
 -- Where every slot says what it said, but for its number, the spans are right.
 settled-same : (ws bs us : List ℕ) → PoolRule ws bs → nodesOf us ≡ nodesOf ws → ((i : ℕ) → i < nodesOf ws → Like ws us i i) → Settled us us (nodesOf ws)
@@ -101,10 +105,10 @@ settled-same ws bs us r e h =
     record { len = refl; nodes = e; spans = covers-linked us n covers; bares = λ ds i. refl }
 
 -- A number is set: the pool is settled as it stands.
-pub number-placed : (ws bs us : List ℕ) (at len : ℕ) (w : Num) (said told : Told) → len ≡ lenOf ws at → PoolRule ws bs → at < nodesOf ws → lenOf ws at ≤ 255 → told ≡ said
-    → Filled ws bs us bs at (frontOf len w (bareAt ws bs at)) → spanOf us at ≡ spanOf ws at
-    → Placed ws bs us bs at 1 (frontOf (lenOf ws at) w (bareAt ws bs at) ∷ []) said told
-number-placed ws bs us at len w said told el r l short t f own =
+pub number-placed : (ws bs us : List ℕ) (at len : ℕ) (w : Num) → len ≡ lenOf ws at → PoolRule ws bs → at < nodesOf ws
+    → lenOf ws at ≤ 255 → Filled ws bs us bs at (frontOf len w (bareAt ws bs at)) → spanOf us at ≡ spanOf ws at
+    → Placed ws bs us bs at 1 (frontOf (lenOf ws at) w (bareAt ws bs at) ∷ [])
+number-placed ws bs us at len w el r l short f own =
     let m = lenOf ws at in
     let x = frontOf m w (bareAt ws bs at) in
     let g : Filled ws bs us bs at x = rw el at f in
@@ -116,4 +120,9 @@ number-placed ws bs us at len w said told el r l short t f own =
     (λ z. rw z (record { start = up .start; len = up .len; span = up .span }))
     (λ ne. like ws bs us bs i i (g .others i ne (omega arith)) (g .spans i ne)) in
     let c : nodesOf ws ≡ total ws 1 (x ∷ []) = omega arith in
-    grown us t (omega (arith, r .lengths, r .room)) (replaced-one ws bs us bs at x room l g) (rw c at (settled-same ws bs us r (g .head 0 (omega arith)) same))
+    record {
+      spliced = us;
+      fits = omega (arith, r .lengths, r .room);
+      replaced = replaced-one ws bs us bs at x room l g;
+      settled = rw c at (settled-same ws bs us r (g .head 0 (omega arith)) same);
+    }

@@ -10,7 +10,6 @@ use Rattle.tree.specs.Key.{Key}
 use Rattle.tree.specs.Map.{Num}
 use Rattle.tree.specs.Tree.{nil}
 use Rattle.tree.specs.Insert.{leaf}
-use Rattle.tree.specs.Told.{Told, refusal}
 use Rattle.search.specs.declared.Stop.{Stop}
 use Rattle.slots.specs.Layout.{SameHead, slotsIn, RoomIn, nodesOf, startOf, lenOf, spanOf, labelOf}
 use Rattle.pool.specs.Rule.{Within, PoolRule}
@@ -85,6 +84,10 @@ pub record Replaced (ws bs vs cs : List ℕ) (at was : ℕ) (xs : List Bare) : T
   pub slots : baresFrom vs cs at (length xs) ≡ xs
   pub back : (i : ℕ) → i < nodesOf ws - (at + was) → bareAt vs cs (at + length xs + i) ≡ bareAt ws bs (at + was + i)
 
+-- Slot `at` with another number
+abbrev pub setBares : (ws bs : List ℕ) (at v : ℕ) → List Bare
+setBares ws bs at v = frontOf (lenOf ws at) (some v) (bareAt ws bs at) ∷ []
+
 -- Slot `at` cut behind m bytes where a key forks off, with the leaf of what is left of the key: before the lower part, or
 -- behind its subtree
 abbrev pub forkBares : (ws bs : List ℕ) (at m : ℕ) (q : Key) (v : ℕ) (below : Bool) → List Bare
@@ -114,7 +117,9 @@ forkWas ws at false = spanOf ws at
 abbrev pub total : (ws : List ℕ) (was : ℕ) (xs : List Bare) → ℕ
 total ws was xs = nodesOf ws + length xs - was
 
--- Either there is no room, and nothing has changed; or xs stand in their place, `said` is told, and the pool is settled.
-pub data Placed (ws bs vs cs : List ℕ) (at was : ℕ) (xs : List Bare) (said told : Told) : Type 0 where
-  full : told ≡ refusal 4 → slotsIn bs < total ws was xs → vs ≡ ws → cs ≡ bs → Placed ws bs vs cs at was xs said told
-  grown : (us : List ℕ) → told ≡ said → total ws was xs ≤ slotsIn bs → Replaced ws bs us cs at was xs → Settled us vs (total ws was xs) → Placed ws bs vs cs at was xs said told
+-- There is room for xs: they stand in their place, and the pool is settled. The words between are `spliced`.
+pub record Placed (ws bs vs cs : List ℕ) (at was : ℕ) (xs : List Bare) : Type 0 where
+  pub spliced : List ℕ
+  pub fits : total ws was xs ≤ slotsIn bs
+  pub replaced : Replaced ws bs spliced cs at was xs
+  pub settled : Settled spliced vs (total ws was xs)

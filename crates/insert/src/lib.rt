@@ -19,11 +19,13 @@ ghost use Rattle.slots.specs.Bare.{bareAt, frontOf, backOf};
 ghost use Rattle.splice.specs.Spans.{Loose};
 ghost use Rattle.search.specs.Landing.{Lands};
 ghost use Rattle.insert.specs.Post.{InsertAllows};
-ghost use Rattle.insert.specs.Splices.{leafNodes, KeyLeft, newNodes, leafBares, Built, Grows, Opens, Cuts, Replaced, Forks, forkBares, forkSide, forkWas, Placed};
+ghost use Rattle.insert.specs.Splices.{leafNodes, KeyLeft, newNodes, leafBares, Built, Grows, Opens, Cuts};
+ghost use Rattle.insert.specs.Splices.{Replaced, Forks, setBares, forkBares, forkSide, forkWas, Placed};
 use search::Descent;
 use search::Stop;
 use slots::put::Stored;
 use tree::Inserted;
+use tree::Looked;
 use tree::RuleNo;
 use tree::Slot;
 
@@ -157,16 +159,22 @@ fn fork_label(
 }
 
 // The key ends at the slot: its number is set, and the old one given back. No span changes.
-fn set_number(words: &mut [u32], at: Slot, number: RuleNo) -> Inserted
+fn set_number(words: &mut [u32], at: Slot, number: RuleNo, looked: Looked) -> Inserted
     requires { ⌜ (wordsFor (nodesOf (now words)) ≤ length (now words)) × (at .0 < nodesOf (now words)) × (lenOf (now words) (at .0) ≤ 255) ⌝ }
-    ensures { λ r. ⌜ ((bs : List ℕ) → PoolRule (now (words .entry)) bs → Placed (now (words .entry)) bs (now (words .exit)) bs (at .0) 1 (frontOf (lenOf (now (words .entry)) (at .0)) (some (number .0)) (bareAt (now (words .entry)) bs (at .0)) ∷ []) (done (numbersW (numAt (now (words .entry)) (at .0)) [])) (insertedTold r)) ⌝ }
+    ensures placed { λ _. do
+      let ws = now (words .entry)
+      let vs = now (words .exit)
+      ⌜ ((bs : List ℕ) → PoolRule ws bs → Placed ws bs vs bs (at .0) 1 (setBares ws bs (at .0) (number .0))) ⌝ }
+    ensures told { λ r. do
+      let old = numAt (now (words .entry)) (at .0)
+      ⌜ insertedTold r ≡ done (numbersW old (looked .0 ∷ [])) ⌝ }
 {
     let len = slots::len_at(words, at);
     let old = slots::put::stored_at(words, at);
     slots::put::keep_front(words, at, len, Stored::Number(number));
     match old {
-        Stored::Nothing => Inserted::New,
-        Stored::Number(v) => Inserted::Replaced(v),
+        Stored::Nothing => Inserted::New(looked),
+        Stored::Number(v) => Inserted::Replaced(v, looked),
     }
 }
 
@@ -181,35 +189,35 @@ fn add_leaf(
     start: usize,
     rest: &[u8],
     number: RuleNo,
-) -> Inserted
+)
     requires { ⌜ Grows (now words) (now labels) n k × Opens (now words) (now labels) (at .0) start (now rest) × (k ≡ leafNodes (length (now rest))) ⌝ }
-    ensures { λ r. ⌜ Placed (now (words .entry)) (now (labels .entry)) (now (words .exit)) (now (labels .exit)) (at .0) 0 (leafBares start (now (rest .entry)) (number .0)) (done []) (insertedTold r) ⌝ }
+    ensures { λ _. do
+      let was = before labels words
+      let is = after labels words
+      let leaf = leafBares start (now (rest .entry)) (number .0)
+      ⌜ Placed (was .words) (was .labels) (is .words) (is .labels) (at .0) 0 leaf ⌝ }
 {
     splice::move_slots(labels, words, at, Slot(n), k);
     chain(labels, words, at, start, rest, number);
     splice::settle_at(words, n + k, at, k);
-    Inserted::New
 }
 
 // The key ends inside the slot's label, which is cut there, behind m bytes: the upper part gets the number, the lower part
 // keeps what was there. Counterpart: `split_at`.
-fn add_cut(
-    labels: &mut [u8],
-    words: &mut [u32],
-    at: Slot,
-    n: usize,
-    m: usize,
-    number: RuleNo,
-) -> Inserted
+fn add_cut(labels: &mut [u8], words: &mut [u32], at: Slot, n: usize, m: usize, number: RuleNo)
     requires { ⌜ Grows (now words) (now labels) n 1 × Cuts (now words) (at .0) m × PoolRule (now words) (now labels) ⌝ }
-    ensures { λ r. ⌜ Placed (now (words .entry)) (now (labels .entry)) (now (words .exit)) (now (labels .exit)) (at .0) 1 (frontOf m (some (number .0)) (bareAt (now (words .entry)) (now (labels .entry)) (at .0)) ∷ backOf m (bareAt (now (words .entry)) (now (labels .entry)) (at .0)) ∷ []) (done []) (insertedTold r) ⌝ }
+    ensures { λ _. do
+      let was = before labels words
+      let is = after labels words
+      let cut = bareAt (was .words) (was .labels) (at .0)
+      let parts = frontOf m (some (number .0)) cut ∷ backOf m cut ∷ []
+      ⌜ Placed (was .words) (was .labels) (is .words) (is .labels) (at .0) 1 parts ⌝ }
 {
     let lower = at.0 + 1;
     splice::move_slots(labels, words, at, Slot(n), 1);
     slots::put::keep_front(words, at, m, Stored::Number(number));
     slots::put::keep_back(labels, words, Slot(lower), m);
     splice::settle_at(words, n + 1, Slot(lower), 1);
-    Inserted::New
 }
 
 // The key forks off inside the slot's label, behind m bytes: the cut and a new leaf are k nodes.
@@ -222,14 +230,20 @@ fn add_fork(
     m: usize,
     rest: &[u8],
     number: RuleNo,
-) -> Inserted
+)
     requires { ⌜ Grows (now words) (now labels) n k × Forks (now words) (at .0) m (now rest) × (k ≡ 1 + leafNodes (length (now rest))) × PoolRule (now words) (now labels) ⌝ }
-    ensures { λ r. ⌜ Placed (now (words .entry)) (now (labels .entry)) (now (words .exit)) (now (labels .exit)) (at .0) (forkWas (now (words .entry)) (at .0) (forkSide (now (words .entry)) (now (labels .entry)) (at .0) m (now (rest .entry)))) (forkBares (now (words .entry)) (now (labels .entry)) (at .0) m (now (rest .entry)) (number .0) (forkSide (now (words .entry)) (now (labels .entry)) (at .0) m (now (rest .entry)))) (done []) (insertedTold r) ⌝ }
+    ensures { λ _. do
+      let was = before labels words
+      let is = after labels words
+      let q = now (rest .entry)
+      let side = forkSide (was .words) (was .labels) (at .0) m q
+      let parts = forkBares (was .words) (was .labels) (at .0) m q (number .0) side
+      let slots = forkWas (was .words) (at .0) side
+      ⌜ Placed (was .words) (was .labels) (is .words) (is .labels) (at .0) slots parts ⌝ }
 {
     let below = at.0 + 1;
     fork_label(labels, words, at, n, k, m, rest, number);
     splice::settle_at(words, n + k, Slot(below), k);
-    Inserted::New
 }
 
 // Stores the number where the search for the key has ended. Of the pool n slots are in use, and there is room for the k new
@@ -248,14 +262,22 @@ fn place(
 {
     let at = d.at;
     let above = d.above;
+    let looked = d.looked;
     let stop = d.stop;
     match stop {
-        Stop::Root | Stop::Same => set_number(words, at, number),
-        Stop::Gap => add_leaf(labels, words, at, n, k, above, &key[above..], number),
-        Stop::Inside(m) => add_cut(labels, words, at, n, m, number),
+        Stop::Root | Stop::Same => set_number(words, at, number, looked),
+        Stop::Gap => {
+            add_leaf(labels, words, at, n, k, above, &key[above..], number);
+            Inserted::New(looked)
+        }
+        Stop::Inside(m) => {
+            add_cut(labels, words, at, n, m, number);
+            Inserted::New(looked)
+        }
         Stop::Fork(m) => {
             let from = above + m;
-            add_fork(labels, words, at, n, k, m, &key[from..], number)
+            add_fork(labels, words, at, n, k, m, &key[from..], number);
+            Inserted::New(looked)
         }
     }
 }

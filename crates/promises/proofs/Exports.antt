@@ -11,32 +11,33 @@ use Rattle.tree.specs.Calls.{Outcome, outcomeTold, SplitOutcome, bothTold, make
 use Rattle.pool.specs.Lent.{Lent, treeIn, sizeIn, roomIn}
 use Rattle.pool.proofs.Outcomes.{refused-stays, make-leaves, Cleared, clear-leaves}
 use Rattle.walk.specs.Walks.{stepOf}
-use Rattle.host.specs.Host.{Changes, Inserts, Splits, keyWritten, NextGiven, Written}
+use Rattle.host.specs.Host.{Storing, Changes, Splits, keyWritten, NextGiven, Written}
 use Rattle.promises.proofs.Calls.{InsertLeft, insert-leaves, RemoveLeft, remove-leaves, SplitLeft, split-leaves, ReadLeft, read-leaves}
 use Rattle.promises.proofs.Refused.{BothStay, both-refused, OutputsStay, outputs-refused}
 
-module _ {r : ℕ} {rs rs′ : List ℕ} {was is : Lent} where
+module _ {store : Storing} {r : ℕ} {rs rs′ : List ℕ} {was is : Lent} where
   -- Any number but 0
-  pub changes-refused : {o : Outcome} → Changes o r rs rs′ was is → ¬ (r ≡ 0) → is ≡ was
+  pub changes-refused : {o : Outcome} → Changes store o r rs rs′ was is → ¬ (r ≡ 0) → is ≡ was
   changes-refused {o} p n = refused-stays o (outcomeTold o) was is (p .left) (λ e. n (p .returns .number ∙ e))
 
-  pub inserts-refused : {o : Outcome} → Inserts o r rs rs′ was is → ¬ (r ≡ 0) → is ≡ was
-  inserts-refused {o} p n = refused-stays o (outcomeTold o) was is (p .left) (λ e. n (p .returns .number ∙ e))
-
   -- and 0
-  pub make-exported : Changes (makeCall (sizeIn was)) r rs rs′ was is → r ≡ 0 → treeIn is ≡ some empty
+  pub make-exported : Changes store (makeCall (sizeIn was)) r rs rs′ was is → r ≡ 0 → treeIn is ≡ some empty
   make-exported p e = make-leaves (outcomeTold (makeCall (sizeIn was))) was is (p .left) (sym (p .returns .number) ∙ e)
 
-  pub clear-exported : Changes (clearCall (treeIn was)) r rs rs′ was is → r ≡ 0 → Cleared was is
+  pub clear-exported : Changes store (clearCall (treeIn was)) r rs rs′ was is → r ≡ 0 → Cleared was is
   clear-exported p e = clear-leaves (outcomeTold (clearCall (treeIn was))) was is (p .left) (sym (p .returns .number) ∙ e)
 
-  pub insert-exported : {key : Key} {number : ℕ} → Inserts (insertCall (treeIn was) (roomIn was) key number) r rs rs′ was is → r ≡ 0 → InsertLeft key number was is
+  pub insert-exported : {key : Key} {number : ℕ}
+      → Changes store (insertCall (treeIn was) (roomIn was) key number) r rs rs′ was is
+      → r ≡ 0 → InsertLeft key number was is
   insert-exported {key} {number} p e = insert-leaves key number _ was is (p .left) (sym (p .returns .number) ∙ e)
 
-  pub remove-exported : {key : Key} → Changes (removeCall (treeIn was) key) r rs rs′ was is → r ≡ 0 → RemoveLeft key was is
+  pub remove-exported : {key : Key} → Changes store (removeCall (treeIn was) key) r rs rs′ was is → r ≡ 0
+      → RemoveLeft key was is
   remove-exported {key} p e = remove-leaves key _ was is (p .left) (sym (p .returns .number) ∙ e)
 
-  pub read-exported : {s ns : List ℕ} → Changes (readCall (sizeIn was) s ns) r rs rs′ was is → r ≡ 0 → ReadLeft s ns was is
+  pub read-exported : {s ns : List ℕ} → Changes store (readCall (sizeIn was) s ns) r rs rs′ was is → r ≡ 0
+      → ReadLeft s ns was is
   read-exported {s} {ns} p e = read-leaves s ns _ was is (p .left) (sym (p .returns .number) ∙ e)
 
 -- Split: the slices of both pools

@@ -4,4 +4,5 @@ pub mod Writes
 pub mod Trace
 pub mod Loader
 pub mod Free
+pub mod Looks
 pub mod Exports

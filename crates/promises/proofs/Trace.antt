@@ -1,5 +1,5 @@
--- Order leaves no trace, of the calls: two pools built by calls from keys of at most 255 bytes that hold the same pairs are
--- written alike; and two accepted changes of different keys may change places. Assumes nothing.
+-- Order leaves no trace, of the calls: two pools built by calls from keys of at most 255 bytes that hold the same pairs
+-- are written and searched alike; and two accepted changes of different keys may change places. Assumes nothing.
 use mathlib.Core.Path.{_≡_, refl, sym, ap, _∙_}
 use mathlib.Core.List.{List}
 use mathlib.Core.Option.{Option, none, some, bind}
@@ -12,11 +12,15 @@ use Rattle.tree.specs.Insert.{insertT}
 use Rattle.tree.specs.Remove.{removeT, clearT}
 use Rattle.tree.specs.Split.{halves, splitT}
 use Rattle.tree.specs.Told.{emptiedTold, insertedTold, gotTold, dividedTold, writtenTold}
-use Rattle.tree.specs.Calls.{writeCall}
+use Rattle.tree.specs.Calls.{writeCall, getCall, longestCall, sharedCall}
+use Rattle.tree.specs.declared.Got.{Got}
+use Rattle.tree.specs.declared.Prefixed.{Prefixed}
+use Rattle.tree.specs.declared.Sharing.{Sharing}
 use Rattle.tree.specs.declared.Written.{Written}
-use Rattle.tree.proofs.OneAnswer.{written-one}
+use Rattle.tree.proofs.OneAnswer.{written-one, got-one, prefixed-one, sharing-one}
 use Rattle.pool.specs.Lent.{Lent, treeIn}
 use Rattle.pool.proofs.Outcomes.{make-leaves, clear-leaves}
+use Rattle.search.specs.Post.{GetAllows, LongestAllows, SharedAllows}
 use Rattle.writer.specs.Post.{WriteAllows}
 use Rattle.order.specs.Built.{Built, fresh, inserted, erased, cleared, detached, remaining}
 use Rattle.order.proofs.Trace.{no-trace-pairs, swap-inserts, swap-removes, swap-insert-remove}
@@ -90,6 +94,17 @@ module _ {l m : Lent} (p : PoolBuilt l) (q : PoolBuilt m) (e : pairsIn l ≡ pai
       → WriteAllows r l tree numbers tree′ numbers′ → WriteAllows s m tree₂ numbers₂ tree₂′ numbers₂′ → length tree ≡ length tree₂ → length numbers ≡ length numbers₂
       → r ≡ s
   no-trace-told r s a b f g = written-one r s (cc (a .said, b .said, no-trace-pool p q e))
+
+  -- Each search answers alike, down to how many nodes it looked at.
+  module _ (key : Key) where
+    pub no-trace-get : (r s : Got) → GetAllows key r l → GetAllows key s m → r ≡ s
+    no-trace-get r s a b = got-one r s (a ∙ ap (λ (o : Option Tree). getCall o key) (no-trace-pool p q e) ∙ sym b)
+
+    pub no-trace-longest : (r s : Prefixed) → LongestAllows key r l → LongestAllows key s m → r ≡ s
+    no-trace-longest r s a b = prefixed-one r s (a ∙ ap (λ (o : Option Tree). longestCall o key) (no-trace-pool p q e) ∙ sym b)
+
+    pub no-trace-shared : (r s : Sharing) → SharedAllows key r l → SharedAllows key s m → r ≡ s
+    no-trace-shared r s a b = sharing-one r s (a ∙ ap (λ (o : Option Tree). sharedCall o key) (no-trace-pool p q e) ∙ sym b)
 
 -- Two changes of different keys, accepted in either order, leave the same tree.
 module _ {l : Lent} (p : PoolBuilt l) where

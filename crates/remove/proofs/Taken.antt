@@ -10,7 +10,7 @@ use Rattle.tree.specs.Map.{Num}
 use Rattle.tree.specs.Tree.{Forest, nil, node, Tree, Wf, nodesF, keysW}
 use Rattle.tree.specs.Search.{getT}
 use Rattle.tree.specs.Remove.{settle, eraseF, eraseT, ifStored, removeT}
-use Rattle.tree.specs.Told.{Told, done, refusal}
+use Rattle.tree.specs.Told.{Told, done, refusal, refusalAt}
 use Rattle.tree.specs.Image.{numbersW}
 use Rattle.tree.specs.Calls.{removeTold, removeCall}
 use Rattle.tree.specs.Context.{Context, plug, depth, before, settled}
@@ -36,7 +36,7 @@ use Rattle.search.specs.declared.Stop.{Stop}
 use Rattle.search.specs.declared.Descent.{Descent}
 use Rattle.search.specs.Landing.{Place, PlaceOf}
 use Rattle.search.proofs.Places.{plug-stands, plug-nodes, nodes-node}
-use Rattle.search.proofs.Answers.{gotAt, AtSlot, place-within, get-place, fits-not, fits-well, Known, tree, tree-is, holds, place}
+use Rattle.search.proofs.Answers.{gotAt, AtSlot, place-within, get-place, fits-not, fits-well, Known, tree, tree-is, holds, looked-is, place}
 use Rattle.tidy.specs.Sparse.{Sparse}
 use Rattle.tidy.specs.Climb.{Kept, Site, Way, reached, rising, Stage, Climbing, Tidied}
 use Rattle.tidy.proofs.Sparse.{Same, stands-sparse}
@@ -152,7 +152,7 @@ module _ {ws bs : List ℕ} {t : Tree} (h : Holds ws bs t) {vs : List ℕ} {at :
   key-stage (x ∷ k) (Stop.Inside m) over above e p = absurd e
   key-stage (x ∷ k) (Stop.Fork m) over above e p = absurd e
 
-module _ {ws bs : List ℕ} {at : ℕ} (x : Found ws bs at) where
+module _ {ws bs : List ℕ} {at looked : ℕ} (x : Found ws bs at looked) where
   found-holds : Holds ws bs (x .tree)
   found-holds = tree-holds ws bs (x .bytes) (x .tree) (x .is)
 
@@ -180,21 +180,23 @@ module _ {ws bs : List ℕ} {at : ℕ} (x : Found ws bs at) where
       }
 
   -- what the call tells and leaves
-  pub not-stored : none ≡ numAt ws at → Meets (removeCall (poolTree ws bs) (x .key)) (refusal 3) ws bs ws bs
+  pub not-stored : none ≡ numAt ws at → Meets (removeCall (poolTree ws bs) (x .key)) (refusalAt 3 looked) ws bs ws bs
   unfolding removeCall removeT ifStored removeTold
-  not-stored e = rw (x .is, fits-well (x .key) (x .short), removeCall, found-number, ← e, ifStored, removeTold) (record { said = refl; words = refl; labels = refl })
+  not-stored e =
+      rw (x .is, fits-well (x .key) (x .short), removeCall, found-number, ← e, ifStored, removeTold, ← x .looked-is)
+      (record { said = refl; words = refl; labels = refl })
 
   pub stored : (v : ℕ) (vs us ds : List ℕ) → some v ≡ numAt ws at → (a : Altered ws bs vs bs at (numberless (bareAt ws bs at))) → Tidied vs bs us ds (found-climbing vs a .final)
-      → Meets (removeCall (poolTree ws bs) (x .key)) (done (v ∷ [])) ws bs us ds
+      → Meets (removeCall (poolTree ws bs) (x .key)) (done (v ∷ looked ∷ [])) ws bs us ds
   unfolding removeCall removeT ifStored removeTold numbersW found-climbing
   stored v vs us ds e a d =
       let h = found-holds in
-      rw (x .is, fits-well (x .key) (x .short), removeCall, found-number, ← e, ifStored, removeTold)
+      rw (x .is, fits-well (x .key) (x .short), removeCall, found-number, ← e, ifStored, removeTold, ← x .looked-is)
       (record { said = refl; tree = d .tree; slots = slots-stay ws bs us ds (h .slots) (d .lenW ∙ a .filled .lenW) (d .lenB) (h .lengths) })
 
 -- The search has ended at the key's slot, or elsewhere: then no key is there.
 module _ {ws bs key : List ℕ} {d : Descent} (w : Known ws bs key d) where
-  unfoldable pub found : (s : Stop) → d .stop ≡ s → Exact s → Found ws bs (d .at .0)
+  unfoldable pub found : (s : Stop) → d .stop ≡ s → Exact s → Found ws bs (d .at .0) (d .looked .0)
   found s e x =
       record {
         tree = tree w;
@@ -207,13 +209,16 @@ module _ {ws bs key : List ℕ} {d : Descent} (w : Known ws bs key d) where
         over = d .parent .0;
         above = d .above;
         place = place w s e;
+        looked-is = looked-is w;
       }
 
-  pub elsewhere : (s : Stop) → d .stop ≡ s → gotAt s (numAt ws (d .at .0)) ≡ none → Meets (removeCall (poolTree ws bs) key) (refusal 3) ws bs ws bs
+  pub elsewhere : (s : Stop) → d .stop ≡ s → gotAt s (numAt ws (d .at .0)) ≡ none
+      → Meets (removeCall (poolTree ws bs) key) (refusalAt 3 (d .looked .0)) ws bs ws bs
   unfolding removeCall removeT ifStored removeTold
   elsewhere s e g =
       let n = get-place (holds w) key s (d .at .0) (d .parent .0) (d .above) (place w s e) ∙ g in
-      rw (tree-is w, fits-well key (w .short), removeCall, n, ifStored, removeTold) (record { said = refl; words = refl; labels = refl })
+      rw (tree-is w, fits-well key (w .short), removeCall, n, ifStored, removeTold, ← looked-is w)
+      (record { said = refl; words = refl; labels = refl })
 
 -- Refusals 1 and 2
 module _ (ws bs key : List ℕ) where

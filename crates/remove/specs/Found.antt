@@ -1,4 +1,4 @@
--- A slot at which the search for a key has ended: the whole key has matched there.
+-- A slot at which the search for a key has ended, and how many nodes it looked at: the whole key has matched there.
 use mathlib.Core.Path.{_≡_}
 use mathlib.Core.List.{List}
 use mathlib.Core.Option.{some}
@@ -6,6 +6,7 @@ use Prim.Native.Nat.{ℕ, _≤_}
 use lib.ListN.{length}
 use Rattle.tree.specs.Key.{Key, Bytes, keyMax}
 use Rattle.tree.specs.Tree.{Tree}
+use Rattle.tree.specs.Search.{lookedT}
 use Rattle.pool.specs.Pool.{poolTree}
 use Rattle.search.specs.declared.Stop.{Stop}
 use Rattle.search.specs.Landing.{PlaceOf}
@@ -17,7 +18,7 @@ Exact Stop.Same = Unit {0}
 Exact (Stop.Inside m) = ⊥
 Exact (Stop.Fork m) = ⊥
 
-pub record Found (ws bs : List ℕ) (at : ℕ) : Type 0 where
+pub record Found (ws bs : List ℕ) (at looked : ℕ) : Type 0 where
   pub tree : Tree
   pub is : poolTree ws bs ≡ some tree
   pub bytes : Bytes bs
@@ -28,3 +29,4 @@ pub record Found (ws bs : List ℕ) (at : ℕ) : Type 0 where
   pub over : ℕ
   pub above : ℕ
   pub place : PlaceOf tree key stop at over above
+  pub looked-is : looked ≡ lookedT tree key

@@ -10,21 +10,23 @@ ghost use Rattle.remove.specs.Post.{RemoveAllows};
 use search::Stop;
 use slots::put::Stored;
 use tree::Got;
+use tree::Looked;
 use tree::Slot;
 
 // The key ends at the slot: its number is taken, if there is one.
-fn take_number(labels: &mut [u8], words: &mut [u32], at: Slot) -> Got
-    requires { ⌜ Found (now words) (now labels) (at .0) ⌝ }
+fn take_number(labels: &mut [u8], words: &mut [u32], at: Slot, looked: Looked) -> Got
+    requires { ⌜ Found (now words) (now labels) (at .0) (looked .0) ⌝ }
     ensures { λ r. do
       let was = before labels words
-      ⌜ ((x : Found (was .words) (was .labels) (at .0)) → RemoveAllows (x .key) r was (after labels words)) ⌝ }
+      let is = after labels words
+      ⌜ ((x : Found (was .words) (was .labels) (at .0) (looked .0)) → RemoveAllows (x .key) r was is) ⌝ }
 {
     match slots::put::stored_at(words, at) {
-        Stored::Nothing => Got::NotFound,
+        Stored::Nothing => Got::NotFound(looked),
         Stored::Number(v) => {
             splice::alter::drop_number(words, at);
             tidy::tidy(labels, words, at);
-            Got::Number(v)
+            Got::Number(v, looked)
         }
     }
 }
@@ -36,13 +38,14 @@ fn remove_in(labels: &mut [u8], words: &mut [u32], key: &[u8]) -> Got
 {
     let d = search::descend(labels, words, key);
     let at = d.at;
+    let looked = d.looked;
     let stop = d.stop;
     match stop {
-        Stop::Root => take_number(labels, words, at),
-        Stop::Gap => Got::NotFound,
-        Stop::Same => take_number(labels, words, at),
-        Stop::Inside(_) => Got::NotFound,
-        Stop::Fork(_) => Got::NotFound,
+        Stop::Root => take_number(labels, words, at, looked),
+        Stop::Gap => Got::NotFound(looked),
+        Stop::Same => take_number(labels, words, at, looked),
+        Stop::Inside(_) => Got::NotFound(looked),
+        Stop::Fork(_) => Got::NotFound(looked),
     }
 }
 

@@ -12,8 +12,8 @@ use borrow.Author.Tests.{le-leb, lt-leb}
 use Rattle.tree.specs.Key.{Key, Bytes, keyMax}
 use Rattle.tree.specs.Map.{Num}
 use Rattle.tree.specs.Tree.{Forest, nil, node, Tree, Above, nodesF}
-use Rattle.tree.specs.Search.{Look, inPart, whole, looksF, looksT, longestT, sharedIn, sharedT, getT}
-use Rattle.tree.specs.Told.{Told, done, refusal}
+use Rattle.tree.specs.Search.{Look, inPart, whole, looksF, looksT, longestT, sharedIn, sharedT, getT, lookedT}
+use Rattle.tree.specs.Told.{Told, done, refusal, refusalAt}
 use Rattle.tree.specs.Calls.{fits, numberTold, getCall, longestTold, longestCall, sharedCall}
 use Rattle.tree.specs.Context.{depth, plug}
 use Rattle.tree.proofs.Parts.{part-same, part-keyEnds, part-fork, strip-short, strip-fork}
@@ -253,39 +253,47 @@ module _ {ws bs key : List ℕ} {d : Descent} (w : Known ws bs key d) where
   pub place : (s : Stop) → d .stop ≡ s → PlaceOf tree key s (d .at .0) (d .parent .0) (d .above)
   place s e = subst (λ (x : Stop). PlaceOf tree key x (d .at .0) (d .parent .0) (d .above)) e (w .lands tree tree-is .place)
 
+  pub looked-is : d .looked .0 ≡ lookedT tree key
+  looked-is = w .lands tree tree-is .looked
+
   -- the slot lies within the words
   pub got-slot : (s : Stop) → d .stop ≡ s → AtSlot s → WordsIn ws (d .at .0)
   got-slot s e i = omega (arith, w .rule, place-within holds key s (d .at .0) (d .parent .0) (d .above) i (place s e))
 
-  pub got-is : (s : Stop) → d .stop ≡ s → (told : Told) → told ≡ numberTold (gotAt s (numAt ws (d .at .0))) → told ≡ getCall (poolTree ws bs) key
+  pub got-is : (s : Stop) → d .stop ≡ s → (told : Told)
+      → told ≡ numberTold (d .looked .0) (gotAt s (numAt ws (d .at .0)))
+      → told ≡ getCall (poolTree ws bs) key
   unfolding getCall
   got-is s e told h =
       let g = get-place holds key s (d .at .0) (d .parent .0) (d .above) (place s e) in
-      rw (tree-is, fits-well key (w .short), getCall, g) h
+      rw (tree-is, fits-well key (w .short), getCall, g, ← looked-is) h
 
-  pub longest-is : (b : Best) → d .best ≡ b → (told : Told) → told ≡ longestTold (bestOf b) → told ≡ longestCall (poolTree ws bs) key
+  pub longest-is : (b : Best) → d .best ≡ b → (told : Told) → told ≡ longestTold (d .looked .0) (bestOf b)
+      → told ≡ longestCall (poolTree ws bs) key
   unfolding longestCall
   longest-is b e told h =
       let g : bestOf b ≡ longestT tree key = ap bestOf (sym e) ∙ w .lands tree tree-is .best in
-      rw (tree-is, fits-well key (w .short), longestCall, ← g) h
+      rw (tree-is, fits-well key (w .short), longestCall, ← g, ← looked-is) h
 
-  pub shared-is : (s : Stop) → d .stop ≡ s → (n : ℕ) → n ≡ sharedAt s (d .above) (length key) → done (n ∷ []) ≡ sharedCall (poolTree ws bs) key
+  pub shared-is : (s : Stop) → d .stop ≡ s → (n : ℕ) → n ≡ sharedAt s (d .above) (length key)
+      → done (n ∷ d .looked .0 ∷ []) ≡ sharedCall (poolTree ws bs) key
   unfolding sharedCall
   shared-is s e n h =
       let g = shared-place tree key s (d .at .0) (d .parent .0) (d .above) (place s e) in
-      rw (tree-is, fits-well key (w .short), sharedCall, g, ← h)
+      rw (tree-is, fits-well key (w .short), sharedCall, g, ← h, ← looked-is)
 
   -- the sum at a fork fits
   pub shared-within : (s : Stop) → d .stop ≡ s → sharedAt s (d .above) (length key) ≤ length key
   shared-within s e = shared-most tree key s (d .at .0) (d .parent .0) (d .above) (place s e)
 
 -- The number at a slot, and none
-pub number-none : (h v : ℕ) → h ≡ 0 → refusal 3 ≡ numberTold (numOf h v)
-unfolding numOf numberTold
-number-none zero v e = refl
-number-none (suc h) v e = absurd (omega arith)
+module _ (n : ℕ) where
+  pub number-none : (h v : ℕ) → h ≡ 0 → refusalAt 3 n ≡ numberTold n (numOf h v)
+  unfolding numOf numberTold
+  number-none zero v e = refl
+  number-none (suc h) v e = absurd (omega arith)
 
-pub number-some : (h v u : ℕ) → (h ≡ 0 → ⊥) → u ≡ v → done (u ∷ []) ≡ numberTold (numOf h v)
-unfolding numOf numberTold
-number-some zero v u ne e = absurd (ne refl)
-number-some (suc h) v u ne e = ap (λ (x : ℕ). done (x ∷ [])) e
+  pub number-some : (h v u : ℕ) → (h ≡ 0 → ⊥) → u ≡ v → done (u ∷ n ∷ []) ≡ numberTold n (numOf h v)
+  unfolding numOf numberTold
+  number-some zero v u ne e = absurd (ne refl)
+  number-some (suc h) v u ne e = ap (λ (x : ℕ). done (x ∷ n ∷ [])) e

@@ -14,7 +14,7 @@ use Rattle.tree.proofs.Parts.{part-same, part-keyEnds, part-labelEnds, part-for
 use Rattle.search.specs.declared.Stop.{Stop}
 use Rattle.search.specs.declared.Best.{Best}
 use Rattle.search.specs.declared.Descent.{Descent}
-use Rattle.search.specs.Landing.{bestOf, Ends, Place, PlaceOf, Lands}
+use Rattle.search.specs.Landing.{descentOf, bestOf, Ends, Place, PlaceOf, Lands}
 
 -- A search's end: how, at which slot, below which, behind how many bytes
 pub record End : Type 0 where
@@ -93,10 +93,11 @@ best-one (Best.At m u) (Best.At n v) e =
     let pair : _≡_ {A = ℕ × ℕ} (m, u .0) (n, v .0) = cc in
     λ i. Best.At (pair i .0) (record { 0 = pair i .1 })
 
--- Two descents that end alike, with the same longest prefix, are one.
+-- Two descents that end alike, with the same longest prefix and as many nodes looked at, are one.
 pub descend-determined : {t : Tree} {key : Key} (d e : Descent) → Lands t key d → Lands t key e → d ≡ e
 descend-determined {t} {key} d e p q =
     let x : ended (d .stop) (d .at .0) (d .parent .0) (d .above) ≡ ended (e .stop) (e .at .0) (e .parent .0) (e .above) =
     sym (place-end t key (d .stop) (d .at .0) (d .parent .0) (d .above) (p .place)) ∙ place-end t key (e .stop) (e .at .0) (e .parent .0) (e .above) (q .place) in
     let b : d .best ≡ e .best = best-one (d .best) (e .best) (p .best ∙ sym (q .best)) in
-    λ i. record { stop = x i .stop; at = record { 0 = x i .at }; parent = record { 0 = x i .up }; above = x i .above; best = b i }
+    let n : d .looked .0 ≡ e .looked .0 = p .looked ∙ sym (q .looked) in
+    λ i. descentOf (x i .stop) (x i .at) (x i .up) (x i .above) (b i) (n i)

@@ -5,12 +5,13 @@ use mathlib.Core.List.{List, [], _∷_, _++_}
 use mathlib.Core.Option.{Option, none}
 use Prim.Native.Nat.{ℕ, suc, _+_, _≤_}
 use native.Mathlib.Omega.{arith}
-use lib.ListN.{length, drop, length-drop}
+use lib.ListN.{length, drop, length-drop, length-append}
 use lib.Seq.{drop-drop, drop-at}
 use Rattle.tree.specs.Key.{Key}
 use Rattle.tree.specs.Map.{Num}
 use Rattle.tree.specs.Tree.{Forest, node, Tree, Wf, nodesF}
-use Rattle.tree.specs.Search.{Look, inPart, whole, looksF, looksT, met, longestIn, longestT, sharedIn, sharedT, getT}
+use Rattle.tree.specs.Search.{Look, inPart, whole, looksF, looksT, met, longestIn, longestT}
+use Rattle.tree.specs.Search.{sharedIn, sharedT, getT, lookedT}
 use Rattle.tree.specs.Context.{Context, top, down, over, plug, depth, Leads, before, passed}
 use Rattle.tree.proofs.Find.{findF, findT, look}
 use Rattle.tree.proofs.Looks.{get-is-find}
@@ -74,6 +75,14 @@ shared-passed top = refl
 shared-passed (down b l w rest C) = shared-append 0 (passed C) (whole (depth C + suc (length l)) w ∷ [])
 shared-passed (over b l w kids C) = shared-append 0 (passed C) (inPart (depth C) ∷ [])
 
+-- No two nodes looked at are in one slot.
+pub passed-before : (C : Context) → suc (length (passed C)) ≤ before C
+unfolding passed before
+passed-before top = omega arith
+passed-before (down b l w rest C) =
+    omega (arith, passed-before C, length-append (passed C) (whole (depth C + suc (length l)) w ∷ []))
+passed-before (over b l w kids C) = omega (arith, passed-before C, length-append (passed C) (inPart (depth C) ∷ []))
+
 -- What the search makes of the tree, it makes of the forest that it has come to.
 module _ (t : Tree) (C : Context) (f : Forest) (a : ℕ) (k : Key) (y : ℕ) (r : Key) (tree : t .kids ≡ plug C f) (leads : Leads C a k y r) where
   pub longest-plug : longestT t (a ∷ k) ≡ longestIn (longestIn (met 0 (t .num) none) (passed C)) (looksF (depth C) f y r)
@@ -83,6 +92,10 @@ module _ (t : Tree) (C : Context) (f : Forest) (a : ℕ) (k : Key) (y : ℕ) (r 
   pub shared-plug : sharedT t (a ∷ k) ≡ sharedIn (depth C) (looksF (depth C) f y r)
   unfolding sharedT looksT sharedIn
   shared-plug = rw (tree, looks-plug C f a k y r leads, shared-append 0 (passed C), shared-passed C)
+
+  pub looked-plug : lookedT t (a ∷ k) ≡ suc (length (passed C) + length (looksF (depth C) f y r))
+  unfolding lookedT looksT
+  looked-plug = rw (tree, looks-plug C f a k y r leads, length-append (passed C) (looksF (depth C) f y r))
 
   pub get-plug : getT t (a ∷ k) ≡ findF f y r
   unfolding findT look

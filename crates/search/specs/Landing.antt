@@ -7,7 +7,7 @@ use lib.ListN.{length}
 use Rattle.tree.specs.Key.{Key, same, keyEnds, labelEnds, fork, part}
 use Rattle.tree.specs.Map.{Num}
 use Rattle.tree.specs.Tree.{Forest, node, Tree, Above, nodesF}
-use Rattle.tree.specs.Search.{longestT}
+use Rattle.tree.specs.Search.{longestT, lookedT}
 use Rattle.tree.specs.Context.{Context, plug, depth, Leads, before, parent}
 use Rattle.slots.specs.Layout.{WordsIn, RoomIn, lenOf}
 use Rattle.search.specs.declared.Meeting.{Meeting}
@@ -40,9 +40,16 @@ meetingOf (y ∷ k) (b ∷ l) =
     ]
 
 -- A descent by its parts
-abbrev pub descentOf : Stop → (at parent above : ℕ) → Best → Descent
-descentOf stop at parent above best =
-    record { stop = stop; at = record { 0 = at }; parent = record { 0 = parent }; above = above; best = best }
+abbrev pub descentOf : Stop → (at parent above : ℕ) → Best → (looked : ℕ) → Descent
+descentOf stop at parent above best looked =
+    record {
+      stop = stop;
+      at = record { 0 = at };
+      parent = record { 0 = parent };
+      above = above;
+      best = best;
+      looked = record { 0 = looked };
+    }
 
 -- The code's longest prefix as the definition has it
 abbrev pub bestOf : Best → Option (ℕ × ℕ)
@@ -113,7 +120,8 @@ PlaceOf t [] (Stop.Inside m) at over above = ⊥
 PlaceOf t [] (Stop.Fork m) at over above = ⊥
 PlaceOf t (a ∷ k) stop at over above = Place t a k stop at over above
 
--- Where the descent for a key has come to, with the longest stored prefix of the key
+-- Where the descent for a key has come to, with the longest stored prefix of the key and the number of nodes looked at
 pub record Lands (t : Tree) (key : Key) (d : Descent) : Type 0 where
   pub place : PlaceOf t key (d .stop) (d .at .0) (d .parent .0) (d .above)
   pub best : bestOf (d .best) ≡ longestT t key
+  pub looked : d .looked .0 ≡ lookedT t key

@@ -16,6 +16,7 @@ ghost use Rattle.search.specs.Post.{GetAllows, LongestAllows, SharedAllo
 ghost use Rattle.search.specs.Landing.{descentOf, meetingOf, bestOf, Lands, InPool};
 use label::First;
 use tree::Got;
+use tree::Looked;
 use tree::Prefixed;
 use tree::RuleNo;
 use tree::Sharing;
@@ -57,14 +58,15 @@ pub enum Best {
     At(usize, RuleNo),
 }
 
-// Where a search came to: the slot, its parent, the bytes matched above the slot's label. The empty key ends at the root,
-// which has neither: both are 0 there.
+// Where a search came to: the slot, its parent, the bytes matched above the slot's label, and how many nodes it looked
+// at. The empty key ends at the root, which has neither parent nor bytes above: both are 0 there.
 pub struct Descent {
     pub stop: Stop,
     pub at: Slot,
     pub parent: Slot,
     pub above: usize,
     pub best: Best,
+    pub looked: Looked,
 }
 
 // How the key from p on meets the label of slot c.
@@ -104,8 +106,8 @@ fn best_at(words: &[u32], c: Slot, n: usize, best: Best) -> Best
 }
 
 // A descent by its parts.
-fn landed(stop: Stop, at: Slot, parent: Slot, above: usize, best: Best) -> Descent
-    ensures { λ r. ⌜ r ≡ descentOf stop (at .0) (parent .0) above best ⌝ }
+fn landed(stop: Stop, at: Slot, parent: Slot, above: usize, best: Best, looked: usize) -> Descent
+    ensures { λ r. ⌜ r ≡ descentOf stop (at .0) (parent .0) above best looked ⌝ }
 {
     Descent {
         stop,
@@ -113,56 +115,65 @@ fn landed(stop: Stop, at: Slot, parent: Slot, above: usize, best: Best) -> Desce
         parent,
         above,
         best,
+        looked: Looked(looked),
     }
 }
 
 // The search, as all calls make it. Counterparts: `get`, `longest_common_prefix_len`, the way down of `insert`, `remove`.
+// Each node that it meets is counted, the root first: `looked` are those before slot c. No two are in one slot, so they
+// are at most c.
 pub fn descend(labels: &[u8], words: &[u32], key: &[u8]) -> Descent
     requires { ⌜ PoolRule (now words) (now labels) × (length (now key) ≤ keyMax) ⌝ }
     ensures { λ r. ⌜ ((t : Tree) → poolTree (now (words .entry)) (now (labels .entry)) ≡ some t → Lands t (now (key .entry)) r) ⌝ }
 {
     let n = slots::nodes_in(words);
     let mut best = best_at(words, Slot(0), 0, Best::None);
+    let mut looked: usize = 1;
     if key.len() == 0 {
-        return landed(Stop::Root, Slot(0), Slot(0), 0, best);
+        return landed(Stop::Root, Slot(0), Slot(0), 0, best, looked);
     }
     let mut parent = Slot(0);
     let mut c: usize = 1;
     let mut end = n;
     let mut p: usize = 0;
     while c < end {
+        let seen = looked + 1;
         match meet(labels, words, Slot(c), key, p) {
-            Meeting::Before => return landed(Stop::Gap, Slot(c), parent, p, best),
-            Meeting::Past => c += slots::span_at(words, Slot(c)),
+            Meeting::Before => return landed(Stop::Gap, Slot(c), parent, p, best, seen),
+            Meeting::Past => {
+                c += slots::span_at(words, Slot(c));
+                looked = seen;
+            }
             Meeting::Same => {
                 best = best_at(words, Slot(c), key.len(), best);
-                return landed(Stop::Same, Slot(c), parent, p, best);
+                return landed(Stop::Same, Slot(c), parent, p, best, seen);
             }
             Meeting::Inside(m) => {
-                return landed(Stop::Inside(m), Slot(c), parent, p, best);
+                return landed(Stop::Inside(m), Slot(c), parent, p, best, seen);
             }
-            Meeting::Fork(m) => return landed(Stop::Fork(m), Slot(c), parent, p, best),
+            Meeting::Fork(m) => return landed(Stop::Fork(m), Slot(c), parent, p, best, seen),
             Meeting::Through(m) => {
                 best = best_at(words, Slot(c), p + m, best);
                 parent = Slot(c);
                 end = c + slots::span_at(words, Slot(c));
                 p += m;
                 c += 1;
+                looked = seen;
             }
         }
     }
-    landed(Stop::Gap, Slot(c), parent, p, best)
+    landed(Stop::Gap, Slot(c), parent, p, best, looked)
 }
 
-// The number at a slot.
-fn number_in(words: &[u32], at: Slot) -> Got
+// The number at a slot, which a search came to.
+fn number_in(words: &[u32], at: Slot, looked: Looked) -> Got
     requires { ⌜ WordsIn (now words) (at .0) ⌝ }
-    ensures { λ r. ⌜ gotTold r ≡ numberTold (numAt (now (words .entry)) (at .0)) ⌝ }
+    ensures { λ r. ⌜ gotTold r ≡ numberTold (looked .0) (numAt (now (words .entry)) (at .0)) ⌝ }
 {
     if slots::has_at(words, at) == 0 {
-        return Got::NotFound;
+        return Got::NotFound(looked);
     }
-    Got::Number(slots::number_at(words, at))
+    Got::Number(slots::number_at(words, at), looked)
 }
 
 // `get` in a pool that has been tested, of a key that is not too long.
@@ -172,13 +183,14 @@ pub fn get_in(labels: &[u8], words: &[u32], key: &[u8]) -> Got
 {
     let d = descend(labels, words, key);
     let at = d.at;
+    let looked = d.looked;
     let stop = d.stop;
     match stop {
-        Stop::Root => number_in(words, at),
-        Stop::Gap => Got::NotFound,
-        Stop::Same => number_in(words, at),
-        Stop::Inside(_) => Got::NotFound,
-        Stop::Fork(_) => Got::NotFound,
+        Stop::Root => number_in(words, at, looked),
+        Stop::Gap => Got::NotFound(looked),
+        Stop::Same => number_in(words, at, looked),
+        Stop::Inside(_) => Got::NotFound(looked),
+        Stop::Fork(_) => Got::NotFound(looked),
     }
 }
 
@@ -201,10 +213,11 @@ pub fn longest_in(labels: &[u8], words: &[u32], query: &[u8]) -> Prefixed
     ensures { λ r. ⌜ LongestAllows (now (query .entry)) r (before labels words) ⌝ }
 {
     let d = descend(labels, words, query);
+    let looked = d.looked;
     let best = d.best;
     match best {
-        Best::None => Prefixed::NotFound,
-        Best::At(n, v) => Prefixed::Longest(n, v),
+        Best::None => Prefixed::NotFound(looked),
+        Best::At(n, v) => Prefixed::Longest(n, v, looked),
     }
 }
 
@@ -228,15 +241,16 @@ pub fn shared_in(labels: &[u8], words: &[u32], query: &[u8]) -> Sharing
 {
     let d = descend(labels, words, query);
     let above = d.above;
+    let looked = d.looked;
     let stop = d.stop;
     match stop {
-        Stop::Root => Sharing::Length(query.len()),
-        Stop::Gap => Sharing::Length(above),
-        Stop::Same => Sharing::Length(query.len()),
-        Stop::Inside(_) => Sharing::Length(query.len()),
+        Stop::Root => Sharing::Length(query.len(), looked),
+        Stop::Gap => Sharing::Length(above, looked),
+        Stop::Same => Sharing::Length(query.len(), looked),
+        Stop::Inside(_) => Sharing::Length(query.len(), looked),
         Stop::Fork(m) => {
             let n = above + m;
-            Sharing::Length(n)
+            Sharing::Length(n, looked)
         }
     }
 }

@@ -1,10 +1,12 @@
-// What each call answers, as a line of text: document 01's number first, and behind it what is told besides.
+// What each call answers, as a line of text: document 01's number first, and behind it what is told besides; at the
+// end, of a search, `/` and how many nodes it looked at.
 use tree::Counted;
 use tree::Divided;
 use tree::Emptied;
 use tree::Got;
 use tree::Inserted;
 use tree::Loaded;
+use tree::Looked;
 use tree::Prefixed;
 use tree::RuleNo;
 use tree::Sharing;
@@ -31,6 +33,12 @@ fn rule(v: RuleNo) {
     print::value(v.0 as u64);
 }
 
+// How many nodes a search looked at ends the line, behind a stroke.
+fn looked(n: Looked) {
+    print::text(b" /");
+    print::number(n.0 as u64);
+}
+
 // What is no command
 pub fn no_command() {
     print::text(b"?\n");
@@ -55,33 +63,46 @@ pub fn counted(answer: Counted) {
 
 pub fn got(answer: Got) {
     number(answer.number());
-    if let Got::Number(v) = answer {
+    if let Got::Number(v, n) = answer {
         rule(v);
+        looked(n);
+    }
+    if let Got::NotFound(n) = answer {
+        looked(n);
     }
     print::line_end();
 }
 
 pub fn inserted(answer: Inserted) {
     number(answer.number());
-    if let Inserted::Replaced(old) = answer {
+    if let Inserted::New(n) = answer {
+        looked(n);
+    }
+    if let Inserted::Replaced(old, n) = answer {
         rule(old);
+        looked(n);
     }
     print::line_end();
 }
 
 pub fn prefixed(answer: Prefixed) {
     number(answer.number());
-    if let Prefixed::Longest(n, v) = answer {
-        length(n);
+    if let Prefixed::Longest(m, v, n) = answer {
+        length(m);
         rule(v);
+        looked(n);
+    }
+    if let Prefixed::NotFound(n) = answer {
+        looked(n);
     }
     print::line_end();
 }
 
 pub fn sharing(answer: Sharing) {
     number(answer.number());
-    if let Sharing::Length(n) = answer {
-        length(n);
+    if let Sharing::Length(m, n) = answer {
+        length(m);
+        looked(n);
     }
     print::line_end();
 }

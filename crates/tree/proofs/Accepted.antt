@@ -1,7 +1,7 @@
 -- How a call that changes a pool came to be done: what was there, that it fits, and what is left. Assumes nothing.
 use mathlib.Core.Path.{_≡_, refl, sym, ap, _∙_}
 use mathlib.Core.Bool.{Bool, true, false}
-use mathlib.Core.List.{List, []}
+use mathlib.Core.List.{List, [], _∷_}
 use mathlib.Core.Option.{Option, none, some}
 use Prim.Native.Nat.{ℕ, _≤_}
 use lib.ListN.{length}
@@ -9,7 +9,7 @@ use lib.Dec.{leb}
 use borrow.Author.Tests.{leb-true}
 use Rattle.tree.specs.Key.{Key, keyMax}
 use Rattle.tree.specs.Tree.{Tree, empty, nodesT}
-use Rattle.tree.specs.Search.{getT}
+use Rattle.tree.specs.Search.{getT, lookedT}
 use Rattle.tree.specs.Insert.{insertT}
 use Rattle.tree.specs.Remove.{removeT, clearT}
 use Rattle.tree.specs.Split.{Halves, absent, halves, splitT}
@@ -52,7 +52,7 @@ pub record InsertAccepted (o : Option Tree) (slots : ℕ) (k : Key) (v : ℕ) (v
   pub short : length k ≤ keyMax
   pub room : nodesT (insertT tree k v) ≤ slots
   pub left : u ≡ insertT tree k v
-  pub values : vs ≡ numbersW (getT tree k) []
+  pub values : vs ≡ numbersW (getT tree k) (lookedT tree k ∷ [])
 
 pub insert-accepted : (o : Option Tree) (slots : ℕ) (k : Key) (v : ℕ) {vs : List ℕ} {u : Tree} → insertCall o slots k v ≡ leaves vs u → InsertAccepted o slots k v vs u
 unfolding insertCall
@@ -70,7 +70,7 @@ pub record RemoveAccepted (o : Option Tree) (k : Key) (vs : List ℕ) (u : Tree)
   pub held : o ≡ some tree
   pub short : length k ≤ keyMax
   pub left : removeT tree k ≡ some u
-  pub values : vs ≡ numbersW (getT tree k) []
+  pub values : vs ≡ numbersW (getT tree k) (lookedT tree k ∷ [])
 
 pub remove-accepted : (o : Option Tree) (k : Key) {vs : List ℕ} {u : Tree} → removeCall o k ≡ leaves vs u → RemoveAccepted o k vs u
 unfolding removeCall removeTold

@@ -1,5 +1,6 @@
--- The worked examples that document 01 marks P, in one table, with what get and remove say of the same trees: what the
--- definitions give, beside what is due; and one proof over the table. Assumes nothing.
+-- The worked examples that document 01 marks P, in one table, with what get and remove say of the same trees and how
+-- many nodes the searches look at: what the definitions give, beside what is due; and one proof over the table. Assumes
+-- nothing.
 use mathlib.Core.Path.{_≡_, refl}
 use mathlib.Core.List.{List, [], _∷_, _++_, map}
 use mathlib.Core.Option.{Option, none, some}
@@ -9,7 +10,7 @@ use lib.ListN.{length}
 use Rattle.tree.specs.Key.{Key, order, strip, common, part, push, keyMax, pick}
 use Rattle.tree.specs.Map.{Pairs}
 use Rattle.tree.specs.Tree.{Tree, empty, room, pairsF, pairsT, labelled, own, nodesF, nodesT}
-use Rattle.tree.specs.Search.{looksF, looksT, getIn, getT, met, longestIn, longestT, sharedIn, sharedT}
+use Rattle.tree.specs.Search.{looksF, looksT, getIn, getT, met, longestIn, longestT, sharedIn, sharedT, lookedT}
 use Rattle.tree.specs.Insert.{chain, leaf, beside, insertF, insertT}
 use Rattle.tree.specs.Remove.{joins, settle, eraseF, eraseT, ifStored, removeT}
 use Rattle.tree.specs.Split.{detachF, leaveF, with, splitT}
@@ -95,11 +96,18 @@ table =
     ∷ record { given = written ab-ac; due = bytes nineteen (1 ∷ 2 ∷ []) }
     ∷ record { given = after (readCall (some 4) nineteen (1 ∷ 2 ∷ [])); due = tree ab-ac }
     -- and what get finds in that tree, at the younger of two siblings and nowhere
-    ∷ record { given = told (getCall (some ab-ac) (a ∷ c ∷ [])); due = told (done (2 ∷ [])) }
-    ∷ record { given = told (getCall (some ab-ac) (a ∷ [])); due = told (refusal 3) }
+    ∷ record { given = told (getCall (some ab-ac) (a ∷ c ∷ [])); due = told (done (2 ∷ 4 ∷ [])) }
+    ∷ record { given = told (getCall (some ab-ac) (a ∷ [])); due = told (refusalAt 3 2) }
+    -- a search looks at the root, and at the child at which it stops because that begins above the key's next byte
+    ∷ record { given = told (getCall (some ab-ac) []); due = told (refusalAt 3 1) }
+    ∷ record { given = told (getCall (some ab-ac) (a ∷ a ∷ [])); due = told (refusalAt 3 3) }
     -- after removing ab; what is not stored is not removed
     ∷ record { given = image (removeCall (some ab-ac) (a ∷ b ∷ [])); due = bytes (0x0C ∷ 0 ∷ 0 ∷ 0 ∷ 3 ∷ 2 ∷ 0 ∷ 1 ∷ 0x61 ∷ 0x63 ∷ []) (2 ∷ []) }
-    ∷ record { given = tells (removeCall (some ab-ac) (a ∷ [])); due = told (refusal 3) }
+    ∷ record { given = tells (removeCall (some ab-ac) (a ∷ [])); due = told (refusalAt 3 2) }
+    -- what insert and remove look at is the tree as it was before
+    ∷ record { given = tells (removeCall (some ab-ac) (a ∷ c ∷ [])); due = told (done (2 ∷ 4 ∷ [])) }
+    ∷ record { given = tells (insertCall (some empty) 2 (a ∷ []) 7); due = told (done (1 ∷ [])) }
+    ∷ record { given = tells (insertCall (some ab) 2 (a ∷ b ∷ []) 7); due = told (done (1 ∷ 2 ∷ [])) }
     -- one slot takes the empty key, and no other
     ∷ record { given = after (insertCall (some empty) 1 [] 7); due = holds (([], 7) ∷ []) 1 }
     ∷ record { given = tells (insertCall (some empty) 1 (a ∷ []) 7); due = told (refusal 4) }
@@ -107,10 +115,10 @@ table =
     ∷ record { given = after (insertCall (some ab) 3 (a ∷ []) 7); due = holds ((a ∷ [], 7) ∷ (a ∷ b ∷ [], 1) ∷ []) 3 }
     ∷ record { given = tells (insertCall (some ab) 3 (a ∷ c ∷ []) 7); due = told (refusal 4) }
     -- a = 1, abc = 2: the queries abd and b
-    ∷ record { given = told (longestCall (some a-abc) (a ∷ b ∷ d ∷ [])); due = told (done (1 ∷ 1 ∷ [])) }
-    ∷ record { given = told (sharedCall (some a-abc) (a ∷ b ∷ d ∷ [])); due = told (done (2 ∷ [])) }
-    ∷ record { given = told (longestCall (some a-abc) (b ∷ [])); due = told (refusal 3) }
-    ∷ record { given = told (sharedCall (some a-abc) (b ∷ [])); due = told (done (0 ∷ [])) }
+    ∷ record { given = told (longestCall (some a-abc) (a ∷ b ∷ d ∷ [])); due = told (done (1 ∷ 1 ∷ 3 ∷ [])) }
+    ∷ record { given = told (sharedCall (some a-abc) (a ∷ b ∷ d ∷ [])); due = told (done (2 ∷ 3 ∷ [])) }
+    ∷ record { given = told (longestCall (some a-abc) (b ∷ [])); due = told (refusalAt 3 2) }
+    ∷ record { given = told (sharedCall (some a-abc) (b ∷ [])); due = told (done (0 ∷ 2 ∷ [])) }
     -- ab, ac, b split by a
     ∷ record { given = second (splitCall (some ab-ac-b) (some 3) (a ∷ [])); due = holds ((b ∷ [], 1) ∷ (c ∷ [], 2) ∷ []) 3 }
     ∷ record { given = first (splitCall (some ab-ac-b) (some 3) (a ∷ [])); due = holds ((b ∷ [], 3) ∷ []) 2 }
@@ -122,5 +130,5 @@ table =
     ∷ []
 
 pub examples : map (λ (e : Example). e .given) table ≡ map (λ (e : Example). e .due) table
-unfolding table ab ab-ac a-abc ab-ac-b abc empty room strip part push keyMax pick joins pairsF pairsT labelled own nodesF nodesT looksF looksT getIn getT met longestIn longestT sharedIn sharedT chain leaf beside insertF insertT settle eraseF eraseT ifStored removeT detachF leaveF with splitT flagsW flagsF flags imageF imageT numbersW numbersF numbersT judge below numberOf numbersPast overKids readNode overRest readKids readT fits numberTold longestTold getCall insertCall longestCall sharedCall removeTold removeCall splitTold splitCall readTold readCall
+unfolding table ab ab-ac a-abc ab-ac-b abc empty room strip part push keyMax pick joins pairsF pairsT labelled own nodesF nodesT looksF looksT getIn getT met longestIn longestT sharedIn sharedT lookedT chain leaf beside insertF insertT settle eraseF eraseT ifStored removeT detachF leaveF with splitT flagsW flagsF flags imageF imageT numbersW numbersF numbersT judge below numberOf numbersPast overKids readNode overRest readKids readT fits numberTold longestTold getCall insertCall longestCall sharedCall removeTold removeCall splitTold splitCall readTold readCall
 examples = refl

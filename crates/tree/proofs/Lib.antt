@@ -15,7 +15,8 @@ pub mod Pairs
 pub mod Heads
 pub mod Longest
 pub mod Shared
-pub mod Looked
+pub mod LookedBound
+pub mod SearchTold
 pub mod Nodes
 pub mod SplitFind
 pub mod InsertWf

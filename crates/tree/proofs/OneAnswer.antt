@@ -5,6 +5,7 @@ use Prim.Native.Nat.{ℕ}
 use lib.ListN.{getD}
 use Rattle.tree.specs.Told.{Told, emptiedTold, gotTold, insertedTold, prefixedTold, sharingTold, steppedTold, dividedTold, countedTold, writtenTold, loadedTold}
 use Rattle.tree.specs.declared.RuleNo.{RuleNo}
+use Rattle.tree.specs.declared.Looked.{Looked}
 use Rattle.tree.specs.declared.Emptied.{Emptied}
 use Rattle.tree.specs.declared.Got.{Got}
 use Rattle.tree.specs.declared.Inserted.{Inserted}
@@ -36,8 +37,14 @@ one f vs = f (getD vs 0 0)
 abbrev two : {A : Type 0} → (ℕ → ℕ → A) → List ℕ → A
 two f vs = f (getD vs 0 0) (getD vs 1 0)
 
+abbrev three : {A : Type 0} → (ℕ → ℕ → ℕ → A) → List ℕ → A
+three f vs = f (getD vs 0 0) (getD vs 1 0) (getD vs 2 0)
+
 abbrev rule : ℕ → RuleNo
 rule v = record { 0 = v }
+
+abbrev count : ℕ → Looked
+count n = record { 0 = n }
 
 emptieds : Table Emptied
 emptieds =
@@ -55,10 +62,10 @@ emptied-one = retract emptiedTold (by emptieds Emptied.NotPool) back
 
 gots : Table Got
 gots =
-    one (λ v. Got.Number (rule v))
+    two (λ v n. Got.Number (rule v) (count n))
     ∷ bare Got.NotPool
     ∷ bare Got.TooLong
-    ∷ bare Got.NotFound
+    ∷ one (λ n. Got.NotFound (count n))
     ∷ []
 
 pub got-one : (a b : Got) → gotTold a ≡ gotTold b → a ≡ b
@@ -66,15 +73,16 @@ unfolding by gots
 got-one = retract gotTold (by gots Got.NotPool) back
   where
     back : (a : Got) → by gots Got.NotPool (gotTold a) ≡ a
-    back (Got.Number v) = refl
+    back (Got.Number v n) = refl
     back Got.NotPool = refl
     back Got.TooLong = refl
-    back Got.NotFound = refl
+    back (Got.NotFound n) = refl
 
--- an insert tells the old number, if there was one
+-- an insert tells the old number before the count, if there was one
 abbrev old : List ℕ → Inserted
-old [] = Inserted.New
-old (v ∷ vs) = Inserted.Replaced (rule v)
+old [] = Inserted.NotPool
+old (n ∷ []) = Inserted.New (count n)
+old (v ∷ n ∷ vs) = Inserted.Replaced (rule v) (count n)
 
 inserteds : Table Inserted
 inserteds =
@@ -90,18 +98,18 @@ unfolding by inserteds
 inserted-one = retract insertedTold (by inserteds Inserted.NotPool) back
   where
     back : (a : Inserted) → by inserteds Inserted.NotPool (insertedTold a) ≡ a
-    back Inserted.New = refl
-    back (Inserted.Replaced v) = refl
+    back (Inserted.New n) = refl
+    back (Inserted.Replaced v n) = refl
     back Inserted.NotPool = refl
     back Inserted.TooLong = refl
     back Inserted.NoRoom = refl
 
 prefixeds : Table Prefixed
 prefixeds =
-    two (λ n v. Prefixed.Longest n (rule v))
+    three (λ m v n. Prefixed.Longest m (rule v) (count n))
     ∷ bare Prefixed.NotPool
     ∷ bare Prefixed.TooLong
-    ∷ bare Prefixed.NotFound
+    ∷ one (λ n. Prefixed.NotFound (count n))
     ∷ []
 
 pub prefixed-one : (a b : Prefixed) → prefixedTold a ≡ prefixedTold b → a ≡ b
@@ -109,14 +117,14 @@ unfolding by prefixeds
 prefixed-one = retract prefixedTold (by prefixeds Prefixed.NotPool) back
   where
     back : (a : Prefixed) → by prefixeds Prefixed.NotPool (prefixedTold a) ≡ a
-    back (Prefixed.Longest n v) = refl
+    back (Prefixed.Longest m v n) = refl
     back Prefixed.NotPool = refl
     back Prefixed.TooLong = refl
-    back Prefixed.NotFound = refl
+    back (Prefixed.NotFound n) = refl
 
 sharings : Table Sharing
 sharings =
-    one Sharing.Length
+    two (λ m n. Sharing.Length m (count n))
     ∷ bare Sharing.NotPool
     ∷ bare Sharing.TooLong
     ∷ []
@@ -126,7 +134,7 @@ unfolding by sharings
 sharing-one = retract sharingTold (by sharings Sharing.NotPool) back
   where
     back : (a : Sharing) → by sharings Sharing.NotPool (sharingTold a) ≡ a
-    back (Sharing.Length n) = refl
+    back (Sharing.Length m n) = refl
     back Sharing.NotPool = refl
     back Sharing.TooLong = refl
 

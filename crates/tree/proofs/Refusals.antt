@@ -13,7 +13,7 @@ use Rattle.tree.specs.Map.{Num}
 use Rattle.tree.specs.Tree.{Forest, Tree, nodesT}
 use Rattle.tree.specs.Insert.{insertT}
 use Rattle.tree.specs.Remove.{removeT}
-use Rattle.tree.specs.Search.{getT}
+use Rattle.tree.specs.Search.{getT, lookedT}
 use Rattle.tree.specs.Split.{Halves, absent, halves, splitT}
 use Rattle.tree.specs.Told.{Told}
 use Rattle.tree.specs.Reader.{Rule, Tested, broken, sound, judge, rules}
@@ -61,8 +61,8 @@ unfolding removeCall removeTold
 remove-honest none k = refusing 0 []
 remove-honest (some t) k = honest-if (fits k) _ _ (refusing 1 []) (told (removeT t k))
   where
-    told : (o : Option Tree) → Honest (removeTold (getT t k) o)
-    told none = refusing 2 []
+    told : (o : Option Tree) → Honest (removeTold (lookedT t k) (getT t k) o)
+    told none = refusing 2 (lookedT t k ∷ [])
     told (some u) = tt
 
 both-if : (b : Bool) (x y : SplitOutcome) → HonestBoth x → HonestBoth y → HonestBoth (elim b [ false ↦ x | true ↦ y ])

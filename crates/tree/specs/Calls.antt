@@ -1,6 +1,7 @@
 -- What each public call tells and leaves, for every input. A pool counts by the tree that it holds: none where it is no
 -- pool. Of a pool to be made, read into or split into only its number of slots counts: none where its lengths are wrong.
--- The order of the refusals is 1, 2, 3, 4, 5.
+-- The order of the refusals is 1, 2, 3, 4, 5. A search tells last how many nodes it looked at, with 0 and with 3;
+-- insert and remove tell it of the tree as it was before.
 use mathlib.Core.List.{List, [], _∷_}
 use mathlib.Core.Option.{Option, none, some}
 use mathlib.Core.Bool.{Bool, true, false}
@@ -10,7 +11,7 @@ use lib.Dec.{leb}
 use Rattle.tree.specs.Key.{Key, keyMax}
 use Rattle.tree.specs.Map.{Num, Pair}
 use Rattle.tree.specs.Tree.{Tree, empty, nodesT, keysT}
-use Rattle.tree.specs.Search.{getT, longestT, sharedT}
+use Rattle.tree.specs.Search.{getT, longestT, sharedT, lookedT}
 use Rattle.tree.specs.Insert.{insertT}
 use Rattle.tree.specs.Remove.{removeT, clearT}
 use Rattle.tree.specs.Split.{Halves, absent, halves, splitT}
@@ -54,25 +55,25 @@ unfoldable pub countsCall : Option Tree → Told
 countsCall none = refusal 1
 countsCall (some t) = done (keysT t ∷ nodesT t ∷ [])
 
-unfoldable pub numberTold : Num → Told
-numberTold none = refusal 3
-numberTold (some v) = done (v ∷ [])
+unfoldable pub numberTold : (looked : ℕ) → Num → Told
+numberTold looked none = refusalAt 3 looked
+numberTold looked (some v) = done (v ∷ looked ∷ [])
 
 unfoldable pub getCall : Option Tree → Key → Told
 getCall none k = refusal 1
-getCall (some t) k = elim (fits k) [ false ↦ refusal 2 | true ↦ numberTold (getT t k) ]
+getCall (some t) k = elim (fits k) [ false ↦ refusal 2 | true ↦ numberTold (lookedT t k) (getT t k) ]
 
-unfoldable pub longestTold : Option (ℕ × ℕ) → Told
-longestTold none = refusal 3
-longestTold (some p) = done (p .0 ∷ p .1 ∷ [])
+unfoldable pub longestTold : (looked : ℕ) → Option (ℕ × ℕ) → Told
+longestTold looked none = refusalAt 3 looked
+longestTold looked (some p) = done (p .0 ∷ p .1 ∷ looked ∷ [])
 
 unfoldable pub longestCall : Option Tree → Key → Told
 longestCall none q = refusal 1
-longestCall (some t) q = elim (fits q) [ false ↦ refusal 2 | true ↦ longestTold (longestT t q) ]
+longestCall (some t) q = elim (fits q) [ false ↦ refusal 2 | true ↦ longestTold (lookedT t q) (longestT t q) ]
 
 unfoldable pub sharedCall : Option Tree → Key → Told
 sharedCall none q = refusal 1
-sharedCall (some t) q = elim (fits q) [ false ↦ refusal 2 | true ↦ done (sharedT t q ∷ []) ]
+sharedCall (some t) q = elim (fits q) [ false ↦ refusal 2 | true ↦ done (sharedT t q ∷ lookedT t q ∷ []) ]
 
 -- No room: the resulting tree needs more nodes than the pool has slots.
 unfoldable pub insertCall : Option Tree → (slots : ℕ) → Key → ℕ → Outcome
@@ -83,17 +84,18 @@ insertCall (some t) slots k v =
       | true ↦
           elim (leb (nodesT (insertT t k v)) slots) [
             | false ↦ refuses (refusal 4)
-            | true ↦ leaves (numbersW (getT t k) []) (insertT t k v)
+            | true ↦ leaves (numbersW (getT t k) (lookedT t k ∷ [])) (insertT t k v)
           ]
     ]
 
-unfoldable pub removeTold : Num → Option Tree → Outcome
-removeTold w none = refuses (refusal 3)
-removeTold w (some u) = leaves (numbersW w []) u
+unfoldable pub removeTold : (looked : ℕ) → Num → Option Tree → Outcome
+removeTold looked w none = refuses (refusalAt 3 looked)
+removeTold looked w (some u) = leaves (numbersW w (looked ∷ [])) u
 
 unfoldable pub removeCall : Option Tree → Key → Outcome
 removeCall none k = refuses (refusal 1)
-removeCall (some t) k = elim (fits k) [ false ↦ refuses (refusal 2) | true ↦ removeTold (getT t k) (removeT t k) ]
+removeCall (some t) k =
+    elim (fits k) [ false ↦ refuses (refusal 2) | true ↦ removeTold (lookedT t k) (getT t k) (removeT t k) ]
 
 unfoldable pub splitTold : (slots : ℕ) → Halves → SplitOutcome
 splitTold slots absent = refusesBoth (refusal 3)

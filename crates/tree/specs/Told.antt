@@ -25,7 +25,7 @@ done vs = record { number = 0; values = vs }
 abbrev pub refusal : ℕ → Told
 refusal n = record { number = n; values = [] }
 
--- a refusal with one value besides: an offset, or a length
+-- a refusal with one value besides: an offset, a length, or a count
 abbrev pub refusalAt : ℕ → ℕ → Told
 refusalAt n at = record { number = n; values = at ∷ [] }
 
@@ -33,27 +33,28 @@ abbrev pub emptiedTold : Emptied → Told
 emptiedTold Emptied.Done = done []
 emptiedTold Emptied.NotPool = refusal 1
 
+-- How many nodes a search looked at is the last value, with 0 and with 3.
 abbrev pub gotTold : Got → Told
-gotTold (Got.Number v) = done (v .0 ∷ [])
+gotTold (Got.Number v n) = done (v .0 ∷ n .0 ∷ [])
 gotTold Got.NotPool = refusal 1
 gotTold Got.TooLong = refusal 2
-gotTold Got.NotFound = refusal 3
+gotTold (Got.NotFound n) = refusalAt 3 (n .0)
 
 abbrev pub insertedTold : Inserted → Told
-insertedTold Inserted.New = done []
-insertedTold (Inserted.Replaced v) = done (v .0 ∷ [])
+insertedTold (Inserted.New n) = done (n .0 ∷ [])
+insertedTold (Inserted.Replaced v n) = done (v .0 ∷ n .0 ∷ [])
 insertedTold Inserted.NotPool = refusal 1
 insertedTold Inserted.TooLong = refusal 2
 insertedTold Inserted.NoRoom = refusal 4
 
 abbrev pub prefixedTold : Prefixed → Told
-prefixedTold (Prefixed.Longest n v) = done (n ∷ v .0 ∷ [])
+prefixedTold (Prefixed.Longest m v n) = done (m ∷ v .0 ∷ n .0 ∷ [])
 prefixedTold Prefixed.NotPool = refusal 1
 prefixedTold Prefixed.TooLong = refusal 2
-prefixedTold Prefixed.NotFound = refusal 3
+prefixedTold (Prefixed.NotFound n) = refusalAt 3 (n .0)
 
 abbrev pub sharingTold : Sharing → Told
-sharingTold (Sharing.Length n) = done (n ∷ [])
+sharingTold (Sharing.Length m n) = done (m ∷ n .0 ∷ [])
 sharingTold Sharing.NotPool = refusal 1
 sharingTold Sharing.TooLong = refusal 2
 

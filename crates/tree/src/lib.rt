@@ -1,4 +1,4 @@
-// The three kinds of number that must not be mixed up, the sizes of document 01, and one enum for each kind of answer.
+// The four kinds of number that must not be mixed up, the sizes of document 01, and one enum for each kind of answer.
 ghost use mathlib.Core.Path.{_≡_};
 ghost use lib.ListN.{getD};
 ghost use Rattle.tree.specs.Told.{emptiedTold, gotTold, insertedTold, prefixedTold, sharingTold, steppedTold, dividedTold, countedTold, writtenTold, loadedTold};
@@ -21,24 +21,28 @@ pub struct Level(pub usize);
 // A stored number: any 32-bit value.
 pub struct RuleNo(pub u32);
 
+// How many nodes a search looked at.
+pub struct Looked(pub usize);
+
 // What make and clear answer.
 pub enum Emptied {
     Done,
     NotPool,
 }
 
-// What get and remove answer: the number at the key, the old one for remove.
+// What get and remove answer: the number at the key, the old one for remove. A search tells last how many nodes it
+// looked at, where it found what it sought and where it did not.
 pub enum Got {
-    Number(RuleNo),
+    Number(RuleNo, Looked),
     NotPool,
     TooLong,
-    NotFound,
+    NotFound(Looked),
 }
 
-// What insert answers.
+// What insert answers. Its search is that in the tree as it was before.
 pub enum Inserted {
-    New,
-    Replaced(RuleNo),
+    New(Looked),
+    Replaced(RuleNo, Looked),
     NotPool,
     TooLong,
     NoRoom,
@@ -46,15 +50,15 @@ pub enum Inserted {
 
 // What the longest stored prefix answers: its length and number.
 pub enum Prefixed {
-    Longest(usize, RuleNo),
+    Longest(usize, RuleNo, Looked),
     NotPool,
     TooLong,
-    NotFound,
+    NotFound(Looked),
 }
 
 // What the longest shared length answers.
 pub enum Sharing {
-    Length(usize),
+    Length(usize, Looked),
     NotPool,
     TooLong,
 }
@@ -123,10 +127,10 @@ impl Got {
         ensures { λ r. ⌜ r ≡ gotTold self .number ⌝ }
     {
         match self {
-            Got::Number(_) => 0,
+            Got::Number(_, _) => 0,
             Got::NotPool => 1,
             Got::TooLong => 2,
-            Got::NotFound => 3,
+            Got::NotFound(_) => 3,
         }
     }
 }
@@ -136,8 +140,8 @@ impl Inserted {
         ensures { λ r. ⌜ r ≡ insertedTold self .number ⌝ }
     {
         match self {
-            Inserted::New => 0,
-            Inserted::Replaced(_) => 0,
+            Inserted::New(_) => 0,
+            Inserted::Replaced(_, _) => 0,
             Inserted::NotPool => 1,
             Inserted::TooLong => 2,
             Inserted::NoRoom => 4,
@@ -150,10 +154,10 @@ impl Prefixed {
         ensures { λ r. ⌜ r ≡ prefixedTold self .number ⌝ }
     {
         match self {
-            Prefixed::Longest(_, _) => 0,
+            Prefixed::Longest(_, _, _) => 0,
             Prefixed::NotPool => 1,
             Prefixed::TooLong => 2,
-            Prefixed::NotFound => 3,
+            Prefixed::NotFound(_) => 3,
         }
     }
 }
@@ -163,7 +167,7 @@ impl Sharing {
         ensures { λ r. ⌜ r ≡ sharingTold self .number ⌝ }
     {
         match self {
-            Sharing::Length(_) => 0,
+            Sharing::Length(_, _) => 0,
             Sharing::NotPool => 1,
             Sharing::TooLong => 2,
         }

@@ -1,7 +1,5 @@
 -- `insert::add_cut` meets its contract. Assumes nothing.
 use mathlib.Core.Path.{refl, _∙_}
-use mathlib.Core.List.{[]}
-use Rattle.tree.specs.Told.{done}
 use Rattle.insert.proofs.Asks.{then, when-moved, when-filled, counted, slot-fits, here, cut-below, cut-within, next-in, next-last, cut-moves, keeps-front, keeps-back, settles}
 use Rattle.insert.proofs.Places.{cut-lower, cut-two}
 use Rattle.insert.proofs.Room.{placed-grown}
@@ -59,7 +57,8 @@ returns c =
     let m = moved .move-slots .ensures in
     let p = moved .before .before .before .before .before .before .pre in
     let f = here (p .0) (when-moved m) (cut-within (p .0) (p .1)) (cut .keep-front .ensures .0) in
-    placed-grown (p .0) (done []) refl (cut-two (p .0) (p .1) (p .2) m (f, cut .keep-front .ensures .1) (parted .keep-back .ensures) .0) (settled .settle-at .ensures)
+    let two = cut-two (p .0) (p .1) (p .2) m (f, cut .keep-front .ensures .1) (parted .keep-back .ensures) in
+    placed-grown (p .0) refl (two .0) (settled .settle-at .ensures)
 
 pub add-cut-spec : {M : Type 1} → statement M
 add-cut-spec =

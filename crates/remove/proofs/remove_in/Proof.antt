@@ -14,30 +14,36 @@ known c =
     knows (start .pre .0) (start .pre .1) (c .before .before .before .before .before .slice-known .given) (c .descend .ensures)
 
 take-number-requires : tie.Need-take-number-requires
-take-number-requires c κs = found (known (c .before .before .before .before .before)) Stop.Root (c .before .before .enum-told .given .1) tt
+take-number-requires c κs = found (known (search)) Stop.Root (c .before .before .enum-told .given .1) tt
 
 take-number-requires-2 : tie.Need-take-number-requires-2
-take-number-requires-2 c κs = found (known (c .before .before .before .before .before)) Stop.Same (c .before .before .enum-told3 .given .1) tt
+take-number-requires-2 c κs = found (known (search)) Stop.Same (c .before .before .enum-told3 .given .1) tt
 
 returns : tie.Need-returns
 unfolding found
-returns c = c .before .before .before .before .take-number .ensures (found (known (c .before .before .before .before .before .before .before .before .before .before)) Stop.Root (c .before .before .before .before .before .before .before .enum-told .given .1) tt)
+returns c =
+    let taken = c .before .before .before .before in
+    let ended = taken .before .before .before in
+    taken .take-number .ensures (found (known (search)) Stop.Root (ended .enum-told .given .1) tt)
 
 returns-2 : tie.Need-returns-2
 unfolding gotAt
-returns-2 c = elsewhere (known (c .before .before .before)) Stop.Gap (c .enum-told2 .given .1) refl
+returns-2 c = elsewhere (known (search)) Stop.Gap (c .enum-told2 .given .1) refl
 
 returns-3 : tie.Need-returns-3
 unfolding found
-returns-3 c = c .before .before .before .before .take-number2 .ensures (found (known (c .before .before .before .before .before .before .before .before .before .before)) Stop.Same (c .before .before .before .before .before .before .before .enum-told3 .given .1) tt)
+returns-3 c =
+    let taken = c .before .before .before .before in
+    let ended = taken .before .before .before in
+    taken .take-number2 .ensures (found (known (search)) Stop.Same (ended .enum-told3 .given .1) tt)
 
 returns-4 : tie.Need-returns-4
 unfolding gotAt
-returns-4 c = elsewhere (known (c .before .before .before)) (Stop.Inside _) (c .enum-told4 .given .1) refl
+returns-4 c = elsewhere (known (search)) (Stop.Inside _) (c .enum-told4 .given .1) refl
 
 returns-5 : tie.Need-returns-5
 unfolding gotAt
-returns-5 c = elsewhere (known (c .before .before .before)) (Stop.Fork _) (c .enum-told5 .given .1) refl
+returns-5 c = elsewhere (known (search)) (Stop.Fork _) (c .enum-told5 .given .1) refl
 
 pub remove-in-spec : {M : Type 1} → statement M
 remove-in-spec =

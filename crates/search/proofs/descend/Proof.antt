@@ -13,16 +13,18 @@ use Rattle.search.proofs.descend.Statement.{statement}
 use Rattle.search.proofs.descend.Tie as tie
 
 abbrev Inv-loop : tie.InvT-loop
-Inv-loop labels words key n best₀ parent₀ c₀ end₀ p₀ best parent c end p = Seek words labels key (bestOf best) (parent .0) c end p
+Inv-loop labels words key n best₀ looked₀ parent₀ c₀ end₀ p₀ best looked parent c end p =
+    Seek words labels key (bestOf best) looked (parent .0) c end p
 
 abbrev μ-loop : tie.MeasureT-loop
-μ-loop labels words key n best₀ parent₀ c₀ end₀ p₀ best parent c end p = end - c
+μ-loop labels words key n best₀ looked₀ parent₀ c₀ end₀ p₀ best looked parent c end p = end - c
 
 -- the node that the loop is at
 here : (c : tie.In-loop Inv-loop μ-loop)
     → let a = c .before .before .before .before .before .before .before .before .args in
     let v = c .before .loop in
-    AtNode (a .words .now) (a .labels .now) (a .key .now) (bestOf (v .best)) (v .parent .0) (v .c) (v .end) (v .p)
+    let best = bestOf (v .best) in
+    AtNode (a .words .now) (a .labels .now) (a .key .now) best (v .looked) (v .parent .0) (v .c) (v .end) (v .p)
 here c = seek-node (c .before .before .before .before .before .before .before .before .pre .0) (c .loop-test .taken) (c .before .loop .inv)
 
 -- what its meeting with the key says
@@ -35,16 +37,26 @@ bytes : (c : tie.After-shared-slice-known Inv-loop μ-loop) → Bytes (c .before
 bytes c = bytes-of (c .before .args .labels .now) (c .shared-slice-known .given)
 
 returns : tie.Need-returns Inv-loop μ-loop
-returns c = rw (c .landed .ensures) (lands-root _ _ _ (c .before .before .before .before .before .before .before .pre .0) (bytes (c .before .before .before .before .before .before)) _ (c .before .if1 .taken) refl (record { at-is = refl; parent-is = refl; above-is = refl }) (c .before .before .best-at .ensures))
+returns c =
+    let begun = c .before .before .before .before .before .before in
+    rw (c .landed .ensures)
+    (lands-root _ _ _ (begun .before .pre .0) (bytes begun) _ (c .before .if1 .taken) refl
+    (record { at-is = refl; parent-is = refl; above-is = refl }) (c .before .before .best-at .ensures) refl)
 
 loop-holds : tie.Need-loop-holds Inv-loop μ-loop
 loop-holds c = seek-start _ _ _ (c .before .before .before .before .before .before .pre .0) (bytes (c .before .before .before .before .before)) _ _ (c .before .before .nodes-in .ensures .0) (c .before .best-at .ensures) (c .if1 .left)
+
+add-seen : tie.Need-add-seen Inv-loop μ-loop
+add-seen c = omega (arith, here c)
 
 meet-requires : tie.Need-meet-requires Inv-loop μ-loop
 meet-requires c κs = (here c .within, omega (arith, here c))
 
 returns-2 : tie.Need-returns-2 Inv-loop μ-loop
-returns-2 c = rw (c .landed2 .ensures) (lands-before _ (here (c .before .before .before .before)) refl (meets (c .before .before .before) Meeting.Before (c .before .enum-told .given .1)) refl)
+returns-2 c =
+    let met = c .before .before .before in
+    rw (c .landed2 .ensures)
+    (lands-before _ (here (met .before)) refl refl (meets met Meeting.Before (c .before .enum-told .given .1)) refl)
 
 span-at-requires : tie.Need-span-at-requires Inv-loop μ-loop
 span-at-requires c κs = here (c .before .before .before) .within .words
@@ -62,13 +74,22 @@ best-at-requires-2 : tie.Need-best-at-requires-2 Inv-loop μ-loop
 best-at-requires-2 c κs = here (c .before .before .before) .within .words
 
 returns-3 : tie.Need-returns-3 Inv-loop μ-loop
-returns-3 c = rw (c .landed3 .ensures) (lands-same _ (here (c .before .before .before .before .before)) (c .before .best-at2 .ensures) (meets (c .before .before .before .before) Meeting.Same (c .before .before .enum-told3 .given .1)) refl)
+returns-3 c =
+    let met = c .before .before .before .before in
+    let same = meets met Meeting.Same (c .before .before .enum-told3 .given .1) in
+    rw (c .landed3 .ensures) (lands-same _ (here (met .before)) refl (c .before .best-at2 .ensures) same refl)
 
 returns-4 : tie.Need-returns-4 Inv-loop μ-loop
-returns-4 c = rw (c .landed4 .ensures) (lands-inside _ (here (c .before .before .before .before .before)) _ refl (meets (c .before .before .before .before) (Meeting.Inside _) (c .before .before .m .given .1)) refl)
+returns-4 c =
+    let met = c .before .before .before .before in
+    let inside = meets met (Meeting.Inside _) (c .before .before .m .given .1) in
+    rw (c .landed4 .ensures) (lands-inside _ (here (met .before)) refl _ refl inside refl)
 
 returns-5 : tie.Need-returns-5 Inv-loop μ-loop
-returns-5 c = rw (c .landed5 .ensures) (lands-fork _ (here (c .before .before .before .before .before)) _ refl (meets (c .before .before .before .before) (Meeting.Fork _) (c .before .before .m2 .given .1)) refl)
+returns-5 c =
+    let met = c .before .before .before .before in
+    let fork = meets met (Meeting.Fork _) (c .before .before .m2 .given .1) in
+    rw (c .landed5 .ensures) (lands-fork _ (here (met .before)) refl _ refl fork refl)
 
 add-best-at : tie.Need-add-best-at Inv-loop μ-loop
 add-best-at c = omega (arith, through-left (here (c .before .before .before .before)) _ (meets (c .before .before .before) (Meeting.Through _) (c .before .m3 .given .1)))
@@ -101,7 +122,7 @@ pub descend-spec : {M : Type 1} → statement M
 descend-spec =
     tie.close
     (tie.spec Inv-loop μ-loop (λ c κs. omega arith) (λ c κs. omega arith) (λ c κs. search needs) returns
-    loop-holds meet-requires (λ c. search needs) (λ c κs. search needs) returns-2
+    loop-holds add-seen meet-requires (λ c. search needs) (λ c κs. search needs) returns-2
     (λ c. search needs) span-at-requires add-c loop-less loop-again
     (λ c. search needs) best-at-requires-2 (λ c κs. search needs) returns-3
     (λ c. search needs) (λ c κs. search needs) returns-4 (λ c. search needs) (λ c κs. search needs) returns-5

@@ -14,30 +14,30 @@ known c =
     knows (start .pre .0) (start .pre .1) (c .before .before .before .shared-slice-known .given) (c .descend .ensures)
 
 number-in-requires : tie.Need-number-in-requires
-number-in-requires c κs = got-slot (known (c .before .before .before)) Stop.Root (c .enum-told .given .1) tt
+number-in-requires c κs = got-slot (known (search)) Stop.Root (c .enum-told .given .1) tt
 
 number-in-requires-2 : tie.Need-number-in-requires-2
-number-in-requires-2 c κs = got-slot (known (c .before .before .before)) Stop.Same (c .enum-told3 .given .1) tt
+number-in-requires-2 c κs = got-slot (known (search)) Stop.Same (c .enum-told3 .given .1) tt
 
 returns : tie.Need-returns
 unfolding gotAt
-returns c = got-is (known (c .before .before .before .before)) Stop.Root (c .before .enum-told .given .1) _ (c .number-in .ensures)
+returns c = got-is (known (search)) Stop.Root (c .before .enum-told .given .1) _ (c .number-in .ensures)
 
 returns-2 : tie.Need-returns-2
 unfolding gotAt numberTold
-returns-2 c = got-is (known (c .before .before .before)) Stop.Gap (c .enum-told2 .given .1) _ refl
+returns-2 c = got-is (known (search)) Stop.Gap (c .enum-told2 .given .1) _ refl
 
 returns-3 : tie.Need-returns-3
 unfolding gotAt
-returns-3 c = got-is (known (c .before .before .before .before)) Stop.Same (c .before .enum-told3 .given .1) _ (c .number-in2 .ensures)
+returns-3 c = got-is (known (search)) Stop.Same (c .before .enum-told3 .given .1) _ (c .number-in2 .ensures)
 
 returns-4 : tie.Need-returns-4
 unfolding gotAt numberTold
-returns-4 c = got-is (known (c .before .before .before)) (Stop.Inside _) (c .enum-told4 .given .1) _ refl
+returns-4 c = got-is (known (search)) (Stop.Inside _) (c .enum-told4 .given .1) _ refl
 
 returns-5 : tie.Need-returns-5
 unfolding gotAt numberTold
-returns-5 c = got-is (known (c .before .before .before)) (Stop.Fork _) (c .enum-told5 .given .1) _ refl
+returns-5 c = got-is (known (search)) (Stop.Fork _) (c .enum-told5 .given .1) _ refl
 
 pub get-in-spec : {M : Type 1} → statement M
 get-in-spec =

@@ -15,11 +15,11 @@ known c =
 
 returns : tie.Need-returns
 unfolding longestTold
-returns c = longest-is (known (c .before .before)) Best.None (c .enum-told .given .1) _ refl
+returns c = longest-is (known (search)) Best.None (c .enum-told .given .1) _ refl
 
 returns-2 : tie.Need-returns-2
 unfolding longestTold
-returns-2 c = longest-is (known (c .before .before .before)) (Best.At _ _) (c .before .best .given .1) _ refl
+returns-2 c = longest-is (known (search)) (Best.At _ _) (c .before .best .given .1) _ refl
 
 pub longest-in-spec : {M : Type 1} → statement M
 longest-in-spec = tie.close (tie.spec (λ c κs. search needs) (λ c. search needs) (λ c. search needs) returns returns-2)

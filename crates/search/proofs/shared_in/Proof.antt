@@ -15,27 +15,27 @@ known c =
 
 add-n : tie.Need-add-n
 unfolding sharedAt
-add-n c = omega (arith, shared-within (known (c .before .before .before)) (Stop.Fork _) (c .before .stop .given .1))
+add-n c = omega (arith, shared-within (known (search)) (Stop.Fork _) (c .before .stop .given .1))
 
 returns : tie.Need-returns
 unfolding sharedAt
-returns c = shared-is (known (c .before .before)) Stop.Root (c .enum-told .given .1) _ refl
+returns c = shared-is (known (search)) Stop.Root (c .enum-told .given .1) _ refl
 
 returns-2 : tie.Need-returns-2
 unfolding sharedAt
-returns-2 c = shared-is (known (c .before .before)) Stop.Gap (c .enum-told2 .given .1) _ refl
+returns-2 c = shared-is (known (search)) Stop.Gap (c .enum-told2 .given .1) _ refl
 
 returns-3 : tie.Need-returns-3
 unfolding sharedAt
-returns-3 c = shared-is (known (c .before .before)) Stop.Same (c .enum-told3 .given .1) _ refl
+returns-3 c = shared-is (known (search)) Stop.Same (c .enum-told3 .given .1) _ refl
 
 returns-4 : tie.Need-returns-4
 unfolding sharedAt
-returns-4 c = shared-is (known (c .before .before)) (Stop.Inside _) (c .enum-told4 .given .1) _ refl
+returns-4 c = shared-is (known (search)) (Stop.Inside _) (c .enum-told4 .given .1) _ refl
 
 returns-5 : tie.Need-returns-5
 unfolding sharedAt
-returns-5 c = shared-is (known (c .before .before .before)) (Stop.Fork _) (c .before .stop .given .1) _ refl
+returns-5 c = shared-is (known (search)) (Stop.Fork _) (c .before .stop .given .1) _ refl
 
 pub shared-in-spec : {M : Type 1} → statement M
 shared-in-spec =
