@@ -79,10 +79,12 @@
  *    bytes 2, 3  level, the high byte first: 0 for the root, and one more than its parent's for every other node
  *    byte 4 ..   the label
  *
- * Of each pair of flag bits both are set or neither; bits 64 and 128 are zero. The children of a node ascend by the first byte
- * of their labels. The numbers are those of the nodes that have one, in the same order, each a `uint32_t` as the machine has
- * it: a program that stores or sends them settles the order of their bytes itself. So ab = 1 and ac = 2 are the numbers 1, 2
- * and these 19 bytes:
+ * Write sets both bits of a flag pair or neither; bits 64 and 128 are zero. Read also takes 1, 4 or 16 without the bit above
+ * it, on the root too, as if it were not set: older software leaves such a bit behind where it took something out. It refuses
+ * with 7 the bits 2, 8 and 32 without the bit below them, 64 and 128, and a sibling of the root. The children of a node ascend
+ * by the first byte of their labels. The numbers are those of the nodes that have one, in the same order, each a `uint32_t` as
+ * the machine has it: a program that stores or sends them settles the order of their bytes itself. So ab = 1 and ac = 2 are
+ * the numbers 1, 2 and these 19 bytes:
  *
  *    0C 00 00 00   0C 01 00 01 61   33 01 00 02 62   03 01 00 02 63
  *

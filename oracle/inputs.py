@@ -224,6 +224,47 @@ def gone(key):
     return ['remove 0 %s' % hexed(key)] + show(0)
 
 
+# An image with the allocated bits that stand alone cleared, record by record.
+def cleared(tree):
+    made, at = bytearray(tree), 0
+    while at + 4 <= len(made):
+        for allocated in (1, 4, 16):
+            if not made[at] & allocated * 2:
+                made[at] &= ~allocated
+        at += 4 + made[at + 1]
+    return bytes(made)
+
+
+# Every flag byte on a root alone and on a leaf, each read and shown if taken.
+def every_flag():
+    for f in range(256):
+        yield from ('read 0 %02x000000 %s' % (f, '7' if f & 2 else '-'), 'write 0')
+        yield from ('read 0 0c000000%02x01000161 %s' % (f, '7' if f & 2 else '-'), 'write 0')
+
+
+# What shrinks a tree in the Rust: the commands, the question for an image with its allocated bits as they stand, what
+# comes between, and the pool that then holds the image's tree.
+def shrinks():
+    keys = words(b'ab', 3)
+    for chosen in range(1 << len(keys)):
+        here = [k for i, k in enumerate(keys) if chosen >> i & 1]
+        prefix = hexed(keys[chosen % len(keys)])
+        if chosen % 8 == 0:
+            yield from parted(build(0, here), prefix)
+        yield build(0, here) + ['remove 0 %s' % hexed(k) for k in here[chosen % 2::2]], 'rust-write 0', [], 0
+    r = random.Random(5)
+    for _ in range(400):
+        keys = sorted({long_key(r, [n for n in EDGES if n < 1000]) for _ in range(r.choice((2, 4, 8)))})
+        yield from parted(build(0, keys), hexed(r.choice(keys)[:r.choice((1, 9, 10, 254, 255, 256))]))
+        yield build(0, keys) + ['remove 0 %s' % hexed(k) for k in keys if r.random() < 0.5], 'rust-write 0', [], 0
+
+
+# A split: the part that it takes out, and what it leaves.
+def parted(commands, prefix):
+    yield commands, 'rust-part 0 ' + prefix, ['split 0 %s 1' % prefix], 1
+    yield [], 'rust-write 0', [], 0
+
+
 # Document 01's examples, as far as pools of 128 slots show them, each under a comment with its answer.
 def examples():
     yield '# The empty tree: 00000000 and no numbers; an image of no bytes gives 6.'
@@ -283,11 +324,17 @@ def examples():
         yield from build(0, [sevens(200, b'\2'), sevens(200, b'\1' + sevens(n))]) + show(0) + gone(sevens(200, b'\2'))
     yield '# Labels of 155 and 45 bytes stay two while they are passed over, and while the key is absent; then 100 and 155 are joined.'
     yield from build(0, [sevens(300), sevens(100, b'\x08'), b'x']) + show(0) + gone(b'x') + gone(sevens(200)) + gone(sevens(100, b'\x08'))
+    yield '# a = 1, b = 2 with b removed, as the Rust writes it: 16 stands alone, and is not written again.'
+    yield from ['read 0 0c0000001301000161 1'] + show(0)
+    yield '# Such bits on the root, 16 included.'
+    yield from ['read 0 15000000 -'] + show(0)
+    yield '# A lone 1 is no number, so that the leaf is idle: 11 4. A lone 2: 7 4. A sibling of the root: 7 0.'
+    yield from ['read 0 0c0000000101000161 1', 'read 0 0c0000000201000161 1', 'read 0 3000000000000000 -'] + show(0)
 
 
 # One image or more for each refusal of the reader, each behind one that is taken.
 def refused_images():
-    for image in ('- -', '000000 -', '0c000000 -', '0c0000000302000161 1', '01000000 -', '02000000 7', '40000000 -', '80000000 -', '3000000000000000 -',
+    for image in ('- -', '000000 -', '0c000000 -', '0c0000000302000161 1', '02000000 7', '08000000 -', '20000000 -', '40000000 -', '80000000 -', '3000000000000000 -',
                   '0800ffff00000000 -', '0c00ffff00000000 -', '00000001 -', '0c00000000000000 -', '0c0000000301000261 1', '0c00000033010001610301000262 1,2',
                   '0c0000003c0100016103010002620301000263 1,2', '0301000061 9', '0c00000003000001 1', '0c00000033010001620301000161 1,2',
                   '0c00000033010001610301000161 1,2', '0c0000000001000161 -', '03000000 -', '00000000 5', '0000000000 -'):
@@ -301,6 +348,7 @@ def replay():
     yield from ('get 0 ' + '61' * 65533, 'x' * 131073)
     yield from edge_images()
     yield from refused_images()
+    yield from every_flag()
     yield from short_runs(8, seed=11)
     yield from itertools.islice(long_runs(4, seed=12), 400)
     yield from full_runs(2, seed=13)

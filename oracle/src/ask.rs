@@ -7,10 +7,11 @@
 //! - `rust-put BYTES NUMBERS KEY N`: insert on the map loaded from the image, and then what `rust-read` says of it
 //! - `rust-insert P KEY N`: `took LEN NODES` of the map with that key, of any length
 //! - `rust-write P`: the image with the allocated bits as they stand
+//! - `rust-part P PREFIX`: the same of the part that a split takes out, the prefix taken off
 //! - `rust-split P PREFIX`: `PatriciaMap::split_by_prefix`: the image and numbers of the part, and how many of its own keys it finds
 //! - `rust-levels N`: a key of 255 · N bytes, written: the records, the highest level and the last one
 use crate::image::{from_image, to_image};
-use crate::records::{levels, nodes};
+use crate::records::{levels, nodes, under};
 use crate::words::{Word, hex, list, number};
 use crate::{Map, image_of};
 use std::panic::{AssertUnwindSafe, catch_unwind};
@@ -95,6 +96,13 @@ pub fn answer(maps: &[Map; 2], words: &[&[u8]]) -> Option<String> {
         (b"rust-write", [p]) => {
             let made = to_image(&maps[p.pool()?]);
             format!("{} {}", hex(&made.tree), list(&made.numbers))
+        }
+        (b"rust-part", [p, prefix]) => {
+            let (p, prefix) = (p.pool()?, prefix.bytes()?);
+            caught(|| {
+                let made = to_image(&maps[p].clone().split_by_prefix(&prefix));
+                format!("{} {}", hex(&under(&made.tree, prefix.len())), list(&made.numbers))
+            })
         }
         (b"rust-split", [p, prefix]) => split(&maps[p.pool()?], &prefix.bytes()?),
         (b"rust-levels", [n]) => deep(number(n)? as usize),

@@ -148,14 +148,17 @@ fn write(map: &Map) -> String {
     format!("0 {} {}", hex(&tree), list(&numbers))
 }
 
-/// The strict reader of document 01 decides; what it takes, the Rust has to take too, and to write again byte for byte.
+/// The strict reader of document 01 decides; what it takes, the Rust has to take too, and to write again byte for byte, but
+/// for allocated bits that stand alone.
 fn read(map: &mut Map, tree: &[u8], numbers: &[u32]) -> String {
     if let Err(refusal) = strict::check(tree, numbers.len(), SLOTS) {
         return refusal;
     }
     match from_image::<Map>(tree, numbers) {
         Err(e) => format!("! the Rust refuses it: {e}"),
-        Ok(made) if image_of(&made) != (tree.to_vec(), numbers.to_vec()) => "! the Rust writes another image".into(),
+        Ok(made) if image_of(&made) != (pairs_agree(tree), numbers.to_vec()) => {
+            "! the Rust writes another image".into()
+        }
         Ok(made) => {
             *map = made;
             "0".into()

@@ -1,4 +1,5 @@
-//! Document 01's order of tests on an image, which the Rust has no counterpart of. Written from document 01 alone.
+//! Document 01's order of tests on an image, with request 2's rule of flags, which the Rust has no counterpart of. Written
+//! from those two alone.
 
 struct Reading<'a> {
     tree: &'a [u8],
@@ -25,10 +26,10 @@ impl Reading<'_> {
         if left.len() < 4 {
             return refusal(6, at);
         }
-        let pair = |low: u8| (left[0] & low != 0, left[0] & low << 1 != 0);
-        let (number, child, sibling) = (pair(1), pair(4), pair(16));
-        let unequal = [number, child, sibling].iter().any(|(lower, upper)| lower != upper);
-        if left[0] >= 64 || unequal || (root && sibling.0) {
+        let pairs = [1, 4, 16].map(|low: u8| (left[0] & low != 0, left[0] & low << 1 != 0));
+        let [number, child, sibling] = pairs.map(|(_, initialised)| initialised);
+        let lacking = pairs.iter().any(|&(allocated, initialised)| initialised && !allocated);
+        if left[0] >= 64 || lacking || (root && sibling) {
             return refusal(7, at);
         }
         if usize::from(left[2]) * 256 + usize::from(left[3]) != level {
@@ -48,19 +49,19 @@ impl Reading<'_> {
         if above + len > 4096 {
             return Err("2".into());
         }
-        if !root && !number.0 && !child.0 {
+        if !root && !number && !child {
             return refusal(11, at);
         }
-        if number.0 && self.numbers == 0 {
+        if number && self.numbers == 0 {
             return refusal(12, at);
         }
-        self.numbers -= usize::from(number.0);
+        self.numbers -= usize::from(number);
         self.nodes += 1;
         self.at = at + 4 + len;
-        if child.0 {
+        if child {
             self.children(level + 1, above + len)?;
         }
-        Ok(Child { sibling: sibling.0, first })
+        Ok(Child { sibling, first })
     }
 
     fn children(&mut self, level: usize, above: usize) -> Result<(), String> {

@@ -45,14 +45,21 @@ pub fn has_sibling(f: u8) -> usize
     f as usize / 32 % 2
 }
 
-// Whether a flag byte that was read can stand at a level. Each pair has both its bits or neither, and no other bit is set,
-// just where the byte is three times its lower bits.
+// Whether a flag byte that was read can stand at a level. A pair that is 2 says initialised without allocated.
 pub fn flags_sound(f: u8, level: Level) -> bool
     ensures { λ r. ⌜ r ≡ passes (judge (flagRules f (level .0) (refusal 7))) ⌝ }
 {
     let bits = f as usize;
-    let lower = bits % 2 + bits / 4 % 2 * 4 + bits / 16 % 2 * 16;
-    if bits != 3 * lower {
+    if bits > 63 {
+        return false;
+    }
+    if bits % 4 == 2 {
+        return false;
+    }
+    if bits / 4 % 4 == 2 {
+        return false;
+    }
+    if bits / 16 == 2 {
         return false;
     }
     if level.0 != 0 {

@@ -1,20 +1,23 @@
--- The loader, of the calls: what write left at the fronts of its outputs is read back as the same tree, into any pool in which
--- it fits; and what read accepted is written again as the same bytes and numbers. Assumes nothing.
+-- The loader, of the calls: what write left at the fronts of its outputs is read back as the same tree, into any pool
+-- in which it fits; what read accepted is written again as the same numbers and the same bytes, cleared of the
+-- allocated bits that stood alone; and those bits change nothing else. Assumes nothing.
 use mathlib.Core.Path.{_≡_, refl, sym, ap, _∙_}
-use mathlib.Core.List.{List, [], _∷_, _++_}
+use mathlib.Core.Logic.{_↔_}
+use mathlib.Core.List.{List, [], _∷_}
 use mathlib.Core.Option.{Option, none, some}
 use Prim.Native.Nat.{ℕ, _≤_}
-use lib.ListN.{length, take, drop}
+use lib.ListN.{length, take}
 use lib.Seq.{take-at}
 use Rattle.tree.specs.Key.{Bytes}
 use Rattle.tree.specs.Tree.{Tree, WellFormed, nodesT}
 use Rattle.tree.specs.Image.{imageT, numbersT}
-use Rattle.tree.specs.Reader.{ok, readT}
+use Rattle.tree.specs.Cleared.{cleared}
 use Rattle.tree.specs.Told.{Told, done, writtenTold, loadedTold}
-use Rattle.tree.specs.Calls.{Outcome, leaves, readTold, readCall}
+use Rattle.tree.specs.Calls.{leaves, readTold, readCall}
 use Rattle.tree.specs.declared.Written.{Written}
 use Rattle.tree.specs.declared.Loaded.{Loaded}
 use Rattle.tree.proofs.OneAnswer.{loaded-one}
+use Rattle.tree.proofs.LoneBits.{read-cleared}
 use Rattle.tree.proofs.Loader.{read-image, read-accepts}
 use Rattle.pool.specs.Lent.{Lent, treeIn, sizeIn}
 use Rattle.pool.specs.Post.{Does}
@@ -23,12 +26,24 @@ use Rattle.reader.specs.Post.{ReadAllows}
 use Rattle.writer.specs.Post.{front, WriteAllows}
 use Rattle.promises.specs.Pools.{Accepted}
 use Rattle.promises.proofs.Calls.{read-leaves}
-use Rattle.promises.proofs.Writes.{Wrote, write-leaves}
+use Rattle.promises.proofs.Writes.{write-leaves}
 
 -- The image of a well-formed tree that fits is accepted, and leaves that tree.
 read-own : (t : Tree) (slots : ℕ) → WellFormed t → nodesT t ≤ slots → readCall (some slots) (imageT t) (numbersT t) ≡ leaves [] t
 unfolding readCall readTold
 read-own t slots wf h = rw (read-image t slots wf h)
+
+-- Bits that stand alone change neither the answer nor the pool that is left.
+call-cleared : (slots : Option ℕ) (s ns : List ℕ) → readCall slots s ns ≡ readCall slots (cleared s) ns
+unfolding readCall
+call-cleared none s ns = refl
+call-cleared (some n) s ns = rw (read-cleared s ns n)
+
+pub read-alike : (s ns : List ℕ) (q : Loaded) (was is : Lent)
+    → ReadAllows s ns q was is ↔ ReadAllows (cleared s) ns q was is
+read-alike s ns q was is =
+    let e = call-cleared (sizeIn was) s ns in
+    (λ d. rw e at d, λ d. rw e d)
 
 pub record ReadBack (t : Tree) (q : Loaded) (is : Lent) : Type 0 where
   pub answer : q ≡ Loaded.Done
@@ -56,12 +71,13 @@ pub record WroteBack (s ns : List ℕ) (r : Written) (tree numbers tree′ numbe
   pub nums : numbers′ ≡ front ns numbers
 
 pub read-write : (s ns : List ℕ) → Bytes s → (q : Loaded) (was is : Lent) → ReadAllows s ns q was is → Accepted (loadedTold q)
-    → (r : Written) (tree numbers tree′ numbers′ : List ℕ) → WriteAllows r is tree numbers tree′ numbers′ → Accepted (writtenTold r) → WroteBack s ns r tree numbers tree′ numbers′
+    → (r : Written) (tree numbers tree′ numbers′ : List ℕ) → WriteAllows r is tree numbers tree′ numbers′
+    → Accepted (writtenTold r) → WroteBack (cleared s) ns r tree numbers tree′ numbers′
 read-write s ns by q was is d e r tree numbers tree′ numbers′ w f =
     let x = read-leaves s ns (loadedTold q) was is d e in
     let loads = read-accepts s by ns (x .size) (x .tree) (x .read) in
     let y = write-leaves is r tree numbers tree′ numbers′ w f in
     let same : y .whole ≡ x .tree = cc (y .held, x .left) in
-    let image : imageT (y .whole) ≡ s = ap imageT same ∙ sym (loads .image) in
+    let image : imageT (y .whole) ≡ cleared s = ap imageT same ∙ sym (loads .image) in
     let list : numbersT (y .whole) ≡ ns = ap numbersT same ∙ sym (loads .numbers) in
     record { lengths = rw (image, list) at (y .lengths); bytes = rw image at (y .bytes); nums = rw list at (y .nums) }

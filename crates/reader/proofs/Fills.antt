@@ -6,12 +6,12 @@ use Prim.Native.Nat.{ℕ, _+_, _*_, _/_, _%_, _≤_, _<_}
 use native.Mathlib.Nat.{add-zero}
 use native.Mathlib.Omega.{arith}
 use lib.ListN.{length, getD, set, take, drop, length-append, length-drop}
-use lib.Seq.{drop-drop, drop-at, take-at, getD-drop}
+use lib.Seq.{drop-drop, drop-at, take-at}
 use Rattle.tree.specs.Map.{Num}
 use Rattle.tree.specs.Tree.{Tree, nodesT, keysW}
 use Rattle.tree.specs.Image.{numbersW}
 use Rattle.tree.specs.Reader.{hasNumber}
-use Rattle.tree.proofs.ReaderParts.{headed}
+use Rattle.tree.proofs.ReaderParts.{headed, byte-at}
 use Rattle.slots.specs.Layout.{numOf}
 use Rattle.slots.specs.Records.{Rec, recAt, run}
 use Rattle.slots.specs.Put.{SlotPut}
@@ -22,6 +22,7 @@ use Rattle.splice.proofs.Bares.{baresF-length}
 use Rattle.pool.proofs.Stands.{nodes-are}
 use Rattle.reader.specs.declared.fill.Cursor.{Cursor}
 use Rattle.reader.specs.Fill.{Room, SlotDue, recRead, RecordDue, Behind, ImageOf, Bared}
+use Rattle.reader.proofs.Uncleared.{uncleared}
 use Rattle.reader.proofs.Items.{Item, imageOf, numbersOf, baresOf, itemsT, ItemDue, passed, Due, tree-image, tree-numbers, tree-bares, tree-due}
 
 -- A slot that was written from what the code read of the record
@@ -40,9 +41,6 @@ pub room-stays : {ws bs vs cs : List ℕ} {e : ℕ} → length vs ≡ length ws 
 room-stays p q r = record { words = omega (arith, r .words); labels = omega (arith, r .labels); few = r .few }
 
 -- What a list has from one place on tells what it has behind a part of that.
-at-drop : (s : List ℕ) (at k : ℕ) {xs : List ℕ} → drop at s ≡ xs → getD s (at + k) 0 ≡ getD xs k 0
-at-drop s at k e = sym (getD-drop at s k 0) ∙ ap (λ (z : List ℕ). getD z k 0) e
-
 past-drop : (s : List ℕ) (at n : ℕ) (xs ys : List ℕ) → drop at s ≡ xs ++ ys → length xs ≡ n → drop (at + n) s ≡ ys
 past-drop s at n xs ys e l = sym (drop-drop n at s) ∙ ap (λ (z : List ℕ). drop n z) e ∙ drop-at xs ys n l
 
@@ -56,7 +54,7 @@ number-there : (ns : List ℕ) (j : ℕ) (w : Num) (more : List ℕ) → j ≤ l
 unfolding numbersW keysW numOf
 number-there ns j none more h e = record { stocked = omega arith; value = refl; rest = past-drop ns j 0 [] more e refl }
 number-there ns j (some v) more h e =
-    let v-is : getD ns j 0 ≡ v = rw add-zero at (at-drop ns j 0 e) in
+    let v-is : getD ns j 0 ≡ v = rw add-zero at (byte-at ns j 0 e) in
     record {
       stocked = omega (arith, length-drop j ns, ap length e);
       value = ap some v-is;
@@ -81,14 +79,15 @@ pub left-start : (s ns starts ws bs : List ℕ) (t : Tree) → length starts ≡
     → Left s ns starts ws bs (record { at = 0; slot = record { 0 = 0 }; next = 0 }) t
 unfolding run
 left-start s ns starts ws bs t size here k =
+    let u = uncleared s (itemsT t) (k .image ∙ sym (tree-image t)) in
     record {
-      items = itemsT t;
-      due = tree-due t starts (k .wf) size here;
+      items = u .items;
+      due = u .due starts (tree-due t starts (k .wf) size here);
       inside = omega arith;
-      image = k .image ∙ sym (tree-image t);
+      image = u .image;
       stocked = omega arith;
-      numbers = k .numbers ∙ sym (tree-numbers t);
-      bares = tree-bares t;
+      numbers = k .numbers ∙ sym (tree-numbers t) ∙ sym (u .numbers);
+      bares = u .bares ∙ tree-bares t;
     }
 
 bares-count : (t : Tree) → length (baresT t) ≡ nodesT t
@@ -133,13 +132,13 @@ module _ {s ns starts ws bs : List ℕ} {c : Cursor} {t : Tree} (f : First s ns 
   x = f .item
 
   pub flag-is : getD s (c .at) 0 ≡ x .flag
-  flag-is = rw add-zero at (at-drop s (c .at) 0 (f .image))
+  flag-is = rw add-zero at (byte-at s (c .at) 0 (f .image))
 
   pub len-is : getD s (c .at + 1) 0 ≡ length (x .label)
-  len-is = at-drop s (c .at) 1 (f .image)
+  len-is = byte-at s (c .at) 1 (f .image)
 
   pub level-is : {level : ℕ} → level ≡ 256 * getD s (c .at + 2) 0 + getD s (c .at + 3) 0 → level ≡ x .level
-  level-is e = omega (arith, e, at-drop s (c .at) 2 (f .image), at-drop s (c .at) 3 (f .image))
+  level-is e = omega (arith, e, byte-at s (c .at) 2 (f .image), byte-at s (c .at) 3 (f .image))
 
   pub path-is : {level path : ℕ} → level ≡ 256 * getD s (c .at + 2) 0 + getD s (c .at + 3) 0 → path ≡ getD starts level 0 → path ≡ x .path
   path-is e p = p ∙ ap (λ (n : ℕ). getD starts n 0) (level-is e) ∙ f .own .here

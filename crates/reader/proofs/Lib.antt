@@ -2,6 +2,7 @@ pub mod Tests
 pub mod Walk
 pub mod Verdicts
 pub mod Items
+pub mod Uncleared
 pub mod Fills
 pub mod Whole
 pub mod Answers

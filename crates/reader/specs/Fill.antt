@@ -8,6 +8,7 @@ use lib.ListN.{length, getD, take, drop}
 use Rattle.tree.specs.Tree.{Tree, nodesT, WellFormed}
 use Rattle.tree.specs.Image.{imageT, numbersT}
 use Rattle.tree.specs.Reader.{hasNumber, ok, readT}
+use Rattle.tree.specs.Cleared.{cleared}
 use Rattle.slots.specs.Layout.{wordsFor, bytesFor, numOf}
 use Rattle.pool.specs.Pool.{slotsOf}
 use Rattle.slots.specs.Records.{Rec}
@@ -51,9 +52,9 @@ pub record Behind (s : List ℕ) (from c : Cursor) : Type 0 where
   pub slot : c .slot .0 ≡ from .slot .0 + 1
   pub next : c .next ≡ from .next + hasNumber (getD s (from .at) 0)
 
--- s and ns are the image and the numbers of the tree t.
+-- s, its single bits cleared, and ns are the image and the numbers of the tree t.
 pub record ImageOf (s ns : List ℕ) (t : Tree) : Type 0 where
-  pub image : s ≡ imageT t
+  pub image : cleared s ≡ imageT t
   pub numbers : ns ≡ numbersT t
   pub wf : WellFormed t
 

@@ -1,11 +1,11 @@
--- The worked examples that document 01 marks P, in one table, with what get and remove say of the same trees and how
--- many nodes the searches look at: what the definitions give, beside what is due; and one proof over the table. Assumes
--- nothing.
+-- The worked examples that document 01 marks P, in one table, with what get and remove say of the same trees, how many
+-- nodes the searches look at, and images with bits that stand alone: what the definitions give, beside what is due; and
+-- one proof over the table. Assumes nothing.
 use mathlib.Core.Path.{_≡_, refl}
 use mathlib.Core.List.{List, [], _∷_, _++_, map}
 use mathlib.Core.Option.{Option, none, some}
 use mathlib.Core.Bool.{Bool, true, false}
-use Prim.Native.Nat.{ℕ}
+use Prim.Native.Nat.{ℕ, _+_}
 use lib.ListN.{length}
 use Rattle.tree.specs.Key.{Key, order, strip, common, part, push, keyMax, pick}
 use Rattle.tree.specs.Map.{Pairs}
@@ -17,6 +17,7 @@ use Rattle.tree.specs.Split.{detachF, leaveF, with, splitT}
 use Rattle.tree.specs.Image.{flagsW, flagsF, flags, imageF, imageT, numbersW, numbersF, numbersT}
 use Rattle.tree.specs.Told.{Told, done, refusal, refusalAt}
 use Rattle.tree.specs.Reader.{judge, below, numberOf, numbersPast, overKids, readNode, overRest, readKids, readT}
+use Rattle.tree.specs.Cleared.{lone, clearedFlag, clearedFrom, cleared}
 use Rattle.tree.specs.Calls.{Outcome, refuses, leaves, SplitOutcome, refusesBoth, leavesBoth, fits, numberTold, longestTold, getCall, insertCall, longestCall, sharedCall, removeTold, removeCall, splitTold, splitCall, both, writeCall, readTold, readCall}
 
 -- What an example shows: what is told; an image with its numbers; the pairs of a tree and its number of nodes
@@ -87,6 +88,20 @@ pub record Example : Type 0 where
 abbrev nineteen : List ℕ
 nineteen = 0x0C ∷ 0 ∷ 0 ∷ 0 ∷ 0x0C ∷ 1 ∷ 0 ∷ 1 ∷ 0x61 ∷ 0x33 ∷ 1 ∷ 0 ∷ 2 ∷ 0x62 ∷ 3 ∷ 1 ∷ 0 ∷ 2 ∷ 0x63 ∷ []
 
+-- what the old software writes of a = 1, b = 2 with b removed, and the same cleared
+abbrev nine : List ℕ
+nine = 0x0C ∷ 0 ∷ 0 ∷ 0 ∷ 0x13 ∷ 1 ∷ 0 ∷ 1 ∷ 0x61 ∷ []
+
+abbrev nineCleared : List ℕ
+nineCleared = 0x0C ∷ 0 ∷ 0 ∷ 0 ∷ 3 ∷ 1 ∷ 0 ∷ 1 ∷ 0x61 ∷ []
+
+-- a root alone, and a leaf a under a root, by their flags
+abbrev rootWith : ℕ → List ℕ
+rootWith f = f ∷ 0 ∷ 0 ∷ 0 ∷ []
+
+abbrev leafWith : ℕ → List ℕ
+leafWith f = 0x0C ∷ 0 ∷ 0 ∷ 0 ∷ f ∷ 1 ∷ 0 ∷ 1 ∷ 0x61 ∷ []
+
 unfoldable pub table : List Example
 table =
     -- the empty tree's image; no bytes give 6
@@ -127,8 +142,19 @@ table =
     ∷ record { given = first (splitCall (some ab-ac-b) (some 1) (a ∷ b ∷ [])); due = holds ((a ∷ c ∷ [], 2) ∷ (b ∷ [], 3) ∷ []) 3 }
     -- abc split by a
     ∷ record { given = second (splitCall (some abc) (some 2) (a ∷ [])); due = holds ((b ∷ c ∷ [], 1) ∷ []) 2 }
+    -- the nine bytes of the old software, read, written back and cleared
+    ∷ record { given = after (readCall (some 2) nine (1 ∷ [])); due = holds ((a ∷ [], 1) ∷ []) 2 }
+    ∷ record { given = image (readCall (some 2) nine (1 ∷ [])); due = bytes nineCleared (1 ∷ []) }
+    ∷ record { given = bytes (cleared nine) []; due = bytes nineCleared [] }
+    -- bits that stand alone on the root, and a sibling of the root
+    ∷ record { given = image (readCall (some 1) (rootWith (1 + 4 + 16)) []); due = bytes (rootWith 0) [] }
+    ∷ record { given = tells (readCall (some 1) (rootWith (16 + 32)) []); due = told (refusalAt 7 0) }
+    -- a lone 1 is no number, so that the leaf is idle; a lone 4 is no child; a lone 2 is refused
+    ∷ record { given = tells (readCall (some 2) (leafWith 1) (1 ∷ [])); due = told (refusalAt 11 4) }
+    ∷ record { given = image (readCall (some 2) (leafWith (3 + 4)) (1 ∷ [])); due = bytes (leafWith 3) (1 ∷ []) }
+    ∷ record { given = tells (readCall (some 2) (leafWith 2) (1 ∷ [])); due = told (refusalAt 7 4) }
     ∷ []
 
 pub examples : map (λ (e : Example). e .given) table ≡ map (λ (e : Example). e .due) table
-unfolding table ab ab-ac a-abc ab-ac-b abc empty room strip part push keyMax pick joins pairsF pairsT labelled own nodesF nodesT looksF looksT getIn getT met longestIn longestT sharedIn sharedT lookedT chain leaf beside insertF insertT settle eraseF eraseT ifStored removeT detachF leaveF with splitT flagsW flagsF flags imageF imageT numbersW numbersF numbersT judge below numberOf numbersPast overKids readNode overRest readKids readT fits numberTold longestTold getCall insertCall longestCall sharedCall removeTold removeCall splitTold splitCall readTold readCall
+unfolding table ab ab-ac a-abc ab-ac-b abc empty room strip part push keyMax pick joins pairsF pairsT labelled own nodesF nodesT looksF looksT getIn getT met longestIn longestT sharedIn sharedT lookedT chain leaf beside insertF insertT settle eraseF eraseT ifStored removeT detachF leaveF with splitT flagsW flagsF flags imageF imageT numbersW numbersF numbersT judge below numberOf numbersPast overKids readNode overRest readKids readT fits numberTold longestTold getCall insertCall longestCall sharedCall removeTold removeCall splitTold splitCall readTold readCall clearedFrom clearedFlag lone
 examples = refl

@@ -1,8 +1,9 @@
 -- Lists of tests: `judge` passes one exactly where all of it holds, and otherwise tells what the first that fails has to
--- tell. Assumes nothing.
-use mathlib.Core.Path.{_≡_, refl, sym, _∙_}
+-- tell; lists that agree up to there are judged alike. Assumes nothing.
+use mathlib.Core.Path.{_≡_, refl, sym, _∙_, ap}
+use mathlib.Core.Logic.{_↔_}
 use mathlib.Core.Bool.{Bool, true, false}
-use mathlib.Core.List.{List, [], _∷_}
+use mathlib.Core.List.{List, [], _∷_, map}
 use Prim.Native.Nat.{ℕ, _≤_, _<_}
 use native.Mathlib.Omega.{arith}
 use lib.Dec.{leb, eqb}
@@ -80,3 +81,35 @@ judged rs = go (judge rs) refl
     go : (t : Tested) → judge rs ≡ t → Judged rs
     go sound e = passes (all-hold rs e) e
     go (broken x) e = breaks x e (λ h. never (cc (passed rs h)))
+
+-- Two lists of tests, one beside the other: up to the first that fails, each holds just where its neighbour does.
+abbrev pub JudgedAlike : List Rule → List Rule → Type 0
+JudgedAlike [] [] = Unit {0}
+JudgedAlike [] (q ∷ qs) = ⊥
+JudgedAlike (r ∷ rs) [] = ⊥
+JudgedAlike (r ∷ rs) (q ∷ qs) = (Holds r ↔ Holds q) × (Holds r → JudgedAlike rs qs)
+
+-- a pair of tests that agree without a look at what comes before, and the tests behind them
+pub onto : {A B C : Type 0} → A → C → A × (B → C)
+onto a c = (a, λ _. c)
+
+holds-fails : (r : Rule) → Holds r → Fails r → ⊥
+holds-fails (atMost a b x) h f = omega arith
+holds-fails (equal a b x) h f = f h
+
+-- They are judged alike where they tell the same.
+pub judge-alike : (rs qs : List Rule) → map tells rs ≡ map tells qs → JudgedAlike rs qs → judge rs ≡ judge qs
+judge-alike [] [] e a = refl
+judge-alike [] (q ∷ qs) e a = absurd a
+judge-alike (r ∷ rs) [] e a = absurd a
+judge-alike (r ∷ rs) (q ∷ qs) e a =
+    let same : tells r ≡ tells q = cc in
+    let more : map tells rs ≡ map tells qs = cc in
+    elim (decide r) [
+      | holds h ↦ judge-on r rs h ∙ judge-alike rs qs more (a .1 h) ∙ sym (judge-on q qs (a .0 .0 h))
+      | fails h ↦
+          elim (decide q) [
+            | holds k ↦ absurd (holds-fails r (a .0 .1 k) h)
+            | fails k ↦ judge-off r rs h ∙ ap broken same ∙ sym (judge-off q qs k)
+          ]
+    ]

@@ -1,4 +1,4 @@
--- What stands in the image is what the reader gives. Assumes nothing.
+-- What stands in the image, its bytes as they are, is what the reader gives. Assumes nothing.
 use mathlib.Core.Path.{_≡_, refl, sym, _∙_, ap}
 use mathlib.Core.List.{List, [], _∷_, _++_, append-nil}
 use mathlib.Core.Option.{none, some}
@@ -6,16 +6,17 @@ use Prim.Native.Nat.{ℕ, _+_, _*_, _≤_, zero, suc, _-_}
 use native.Mathlib.Nat.{add-zero}
 use native.Mathlib.Omega.{arith}
 use lib.ListN.{length, getD, drop, length-append, length-drop}
-use lib.Seq.{drop-drop, getD-drop, drop-append-seam, take-append-seam}
+use lib.Seq.{drop-drop, drop-append-seam, take-append-seam}
 use Rattle.tree.specs.Key.{keyMax, Key}
 use Rattle.tree.specs.Map.{Num}
 use Rattle.tree.specs.Tree.{Forest, nil, node, keysW, Tree, Wf, WellFormed, room, nodesF}
 use Rattle.tree.specs.Image.{flagsF, flags, imageF, numbersW, numbersF, imageT, numbersT}
 use Rattle.tree.specs.Reader.{below, hasNumber, hasSibling, numberOf, numbersPast, labelRest, Read, gave, overKids, readNode, overRest, readKids}
 use Rattle.tree.proofs.ReaderRules.{FineAt, fine-judged}
-use Rattle.tree.proofs.ReaderParts.{has, image-node, image-length, numbers-node, headed, Says, flags-say, number-forth, past-forth}
+use Rattle.tree.proofs.ReaderParts.{has, byte-at, image-node, image-length, numbers-node, headed}
+use Rattle.tree.proofs.ReaderParts.{Says, flags-say, number-forth, past-forth}
 use Rattle.tree.proofs.ReaderSteps.{maybe, node-is, kids-is}
-use Rattle.tree.proofs.ReaderStands.{Stands, NodeStands, below-one, least-above, least-0, bits-used}
+use Rattle.tree.proofs.ReaderStands.{asIs, Stands, NodeStands, below-one, least-above, least-0, bits-used}
 
 numbers-length : (w : Num) (ns : List ℕ) → length (numbersW w ns) ≡ keysW w + length ns
 unfolding numbersW keysW
@@ -32,10 +33,6 @@ record Due (s : Key) (level least path at : ℕ) (t : Tree) (rest : Forest) (lab
   short : path + length label ≤ keyMax
   used : below level ≤ keysW (t .num) + has (t .kids)
   wf : Wf (path + length label) (t .kids)
-
--- the byte i of what stands at `at`
-byte-at : (s : Key) (at i : ℕ) {xs : Key} → drop at s ≡ xs → getD s (at + i) 0 ≡ getD xs i 0
-byte-at s at i e = rw (← e, getD-drop)
 
 module _ {s : Key} {level least path at : ℕ} {t : Tree} {rest : Forest} {label bs : Key} (d : Due s level least path at t rest label bs) where
   due-says : Says (getD s at 0) (keysW (t .num)) (has (t .kids)) (has rest)
@@ -69,7 +66,8 @@ module _ {s : Key} {level least path at : ℕ} {t : Tree} {rest : Forest} {label
   due-rest : drop end s ≡ bs
   due-rest = rw (← drop-drop (length (imageF (level + 1) (t .kids))) first s, due-kids) (drop-append-seam (imageF (level + 1) (t .kids)) bs)
 
-  due-stands : (left : List ℕ) → NodeStands s (numbersW (t .num) (numbersF (t .kids) ++ left)) level least path at t end left
+  due-stands : (left : List ℕ)
+      → NodeStands asIs s (numbersW (t .num) (numbersF (t .kids) ++ left)) level least path at t end left
   due-stands left =
       record {
         fine = due-fine _;
@@ -87,7 +85,8 @@ module _ {s : Key} {level least path at : ℕ} {t : Tree} {rest : Forest} {label
       }
 
 maybe-complete : (f : Forest) {s : Key} {level least path at : ℕ} {ns : List ℕ} {a : ℕ} {left : List ℕ} {flag : ℕ} {r : Read Forest}
-    → Stands s level least path at ns f a left flag → (Stands s level least path at ns f a left 1 → r ≡ gave f a left)
+    → Stands asIs s level least path at ns f a left flag
+    → (Stands asIs s level least path at ns f a left 1 → r ≡ gave f a left)
     → maybe flag at ns r ≡ gave f a left
 unfolding maybe flagsF imageF numbersF
 maybe-complete nil x g = rw (← x .here, x .end, x .numbers, add-zero)
@@ -97,10 +96,11 @@ maybe-complete (node b l w kids rest) x g = rw (← x .here) (g (rw (← x .here
 abbrev pub Complete : ℕ → Forest → Type 0
 Complete n f =
     (s : Key) (level least path at : ℕ) (ns : List ℕ) (a : ℕ) (left : List ℕ) → 1 ≤ level
-    → Stands s level least path at ns f a left 1 → readKids n s level least path at ns ≡ gave f a left
+    → Stands asIs s level least path at ns f a left 1 → readKids n s level least path at ns ≡ gave f a left
 
 node-complete : (n : ℕ) {s ns : List ℕ} {level least path at : ℕ} {t : Tree} {a : ℕ} {left : List ℕ} → Complete n (t .kids)
-    → NodeStands s ns level least path at t a left → readNode (readKids n s) s level least path at ns ≡ gave t a left
+    → NodeStands asIs s ns level least path at t a left
+    → readNode (readKids n s) s level least path at ns ≡ gave t a left
 unfolding overKids
 node-complete n {s} {ns} {level} {least} {path} {at} {t} ih x =
     let w : numberOf (hasNumber (getD s at 0)) ns ≡ t .num = rw (x .numbers, ← x .number) (number-forth (t .num) (x .stock)) in
@@ -113,7 +113,7 @@ tree w kids = record { num = w; kids = kids }
 
 -- A forest that stands in the image, taken apart
 module _ {s : Key} {level least path at : ℕ} {ns : List ℕ} {b : ℕ} {l : Key} {w : Num} {kids rest : Forest} {a : ℕ} {left : List ℕ} (h : 1 ≤ level)
-    (x : Stands s level least path at ns (node b l w kids rest) a left 1) where
+    (x : Stands asIs s level least path at ns (node b l w kids rest) a left 1) where
   image : drop at s ≡ headed (flags w kids rest) (suc (length l)) level (b ∷ (l ++ (imageF (level + 1) kids ++ (imageF level rest ++ drop a s))))
   image = x .image ∙ image-node level b l w kids rest (drop a s)
 
@@ -142,10 +142,11 @@ module _ {s : Key} {level least path at : ℕ} {ns : List ℕ} {b : ℕ} {l : Ke
       let m : getD s (at + 1) 0 ≡ suc (length l) = byte-at s at 1 image in
       rw (m, e, ← drop-drop 5 at s, image) (take-append-seam l _)
 
-  node-part : NodeStands s ns level least path at (tree w kids) (end due) (numbersF rest ++ left)
+  node-part : NodeStands asIs s ns level least path at (tree w kids) (end due) (numbersF rest ++ left)
   node-part = rw (x .numbers, numbers-node) (due-stands due (numbersF rest ++ left))
 
-  rest-part : Stands s level (getD s (at + 4) 0 + 1) path (end due) (numbersF rest ++ left) rest a left (hasSibling (getD s at 0))
+  rest-part : let flag = hasSibling (getD s at 0) in
+      Stands asIs s level (getD s (at + 4) 0 + 1) path (end due) (numbersF rest ++ left) rest a left flag
   rest-part =
       let y = due-says due in
       let m = due-length due in

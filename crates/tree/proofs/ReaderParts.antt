@@ -1,27 +1,28 @@
 -- The parts of one record, as the writer puts them and as the reader takes them: flags, level, number, label.
 -- Assumes nothing.
-use mathlib.Core.Path.{_≡_, refl, _∙_}
+use mathlib.Core.Path.{_≡_, refl}
 use mathlib.Core.List.{List, [], _∷_, _++_, append-assoc}
 use mathlib.Core.Option.{none, some}
 use Prim.Native.Nat.{ℕ, _+_, _*_, _/_, _%_, _≤_, _<_, zero, suc, _-_}
-use native.Mathlib.Nat.{div-div-eq-div-mul}
 use native.Mathlib.Omega.{arith}
 use lib.ListN.{length, getD, take, drop, length-append, take-append-drop}
-use lib.Seq.{drop-cons, drop-drop}
+use lib.Seq.{drop-cons, drop-drop, getD-drop}
 use Rattle.tree.specs.Key.{Key}
 use Rattle.tree.specs.Map.{Num}
 use Rattle.tree.specs.Tree.{Forest, nil, node, keysW}
 use Rattle.tree.specs.Image.{flagsW, flagsF, flags, imageF, numbersW, numbersF}
 use Rattle.tree.specs.Reader.{hasNumber, hasChild, hasSibling, numberOf, numbersPast}
-use Rattle.tree.proofs.ReaderRules.{Paired}
+use Rattle.tree.specs.Cleared.{clearedFlag}
+use Rattle.tree.proofs.Bits.{cleared-sum}
+use Rattle.tree.proofs.ReaderRules.{Allocated}
 
 -- 1 for a forest that has a node, 0 for the other; `keysW` says the same of a number.
 abbrev pub has : Forest → ℕ
 has f = flagsF 1 f
 
--- A flag byte whose pairs agree, and what it says
+-- A flag byte that is taken, and what it says
 pub record Says (f x y z : ℕ) : Type 0 where
-  pub paired : Paired f
+  pub bits : Allocated f
   pub number : hasNumber f ≡ x
   pub child : hasChild f ≡ y
   pub sibling : hasSibling f ≡ z
@@ -38,23 +39,6 @@ flags-say (some v) nil (node b l w kids rest) = omega arith
 flags-say (some v) (node b l w kids rest) nil = omega arith
 flags-say (some v) (node b l w kids rest) (node c m u ks r) = omega arith
 
--- A number that ends in two equal bits; y and z are what is left of it behind one and behind both.
-pair : (x y z : ℕ) → x / 2 ≡ y → y / 2 ≡ z → x % 2 ≡ y % 2 → x ≡ 4 * z + 3 * (y % 2)
-pair x y z p q e = omega arith
-
-three-pairs : (f g h a b c : ℕ) → f ≡ 4 * g + 3 * a → g ≡ 4 * h + 3 * b → h ≡ 4 * 0 + 3 * c → f ≡ 3 * a + 12 * b + 48 * c
-three-pairs f g h a b c p q r = omega arith
-
--- A byte whose pairs agree is what its upper bits make of it.
-paired-sum : (f : ℕ) → Paired f → f ≡ 3 * hasNumber f + 12 * hasChild f + 48 * hasSibling f
-paired-sum f p =
-    let half = div-div-eq-div-mul f in
-    let none-left : f / 64 ≡ 0 = omega (arith, p .unused) in
-    three-pairs f (f / 4) (f / 16) _ _ _
-    (pair f (f / 2) (f / 4) refl (half 2 2) (p .number))
-    (pair (f / 4) (f / 8) (f / 16) (half 4 2) (half 8 2) (p .child))
-    (pair (f / 16) (f / 32) 0 (half 16 2) (half 32 2 ∙ none-left) (p .sibling))
-
 flagsW-is : (w : Num) → flagsW w ≡ 3 * keysW w
 unfolding flagsW keysW
 flagsW-is none = refl
@@ -65,10 +49,14 @@ unfolding flagsF
 flagsF-is p nil = omega arith
 flagsF-is p (node b l w kids rest) = omega arith
 
--- The writer sets again the flags that the reader took.
-pub flags-back : (f : ℕ) (w : Num) (kids rest : Forest) → Says f (keysW w) (has kids) (has rest) → f ≡ flags w kids rest
+-- The writer sets again the flags that the reader took, but for the bits that stand alone.
+pub flags-back : (f : ℕ) (w : Num) (kids rest : Forest) → Says f (keysW w) (has kids) (has rest)
+    → clearedFlag f ≡ flags w kids rest
 unfolding flags
-flags-back f w kids rest p = omega (arith, paired-sum f (p .paired), flagsW-is w, flagsF-is 12 kids, flagsF-is 48 rest)
+flags-back f w kids rest p =
+    let b = p .bits in
+    let sum = cleared-sum f (b .unused) (b .number) (b .child) (b .sibling) in
+    omega (arith, sum, flagsW-is w, flagsF-is 12 kids, flagsF-is 48 rest)
 
 -- A node's number
 pub number-forth : (w : Num) (ns : List ℕ) → numberOf (keysW w) (numbersW w ns) ≡ w
@@ -94,6 +82,10 @@ own (suc i) (v ∷ ns) h g = record { keys = omega arith; numbers = refl }
 -- A record's four bytes before its label
 abbrev pub headed : (f m level : ℕ) → Key → Key
 headed f m level xs = f ∷ m ∷ (level / 256) ∷ (level % 256) ∷ xs
+
+-- the byte i of what stands at `at`
+pub byte-at : (s : Key) (at i : ℕ) {xs : Key} → drop at s ≡ xs → getD s (at + i) 0 ≡ getD xs i 0
+byte-at s at i e = rw (← e, getD-drop)
 
 -- The reader's view of a record, byte by byte
 next : (s : Key) (i j : ℕ) → i < length s → suc i ≡ j → drop i s ≡ getD s i 0 ∷ drop j s

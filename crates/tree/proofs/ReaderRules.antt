@@ -8,17 +8,17 @@ use Rattle.tree.specs.Key.{keyMax}
 use Rattle.tree.specs.Reader.{sound, judge, below, hasNumber, hasChild, hasSibling, rules}
 use Rattle.tree.proofs.Judge.{passed, all-hold}
 
--- What the rules ask of a flag byte for itself
-pub record Paired (f : ℕ) : Type 0 where
+-- What the rules ask of a flag byte for itself: an initialised bit has its allocated one.
+pub record Allocated (f : ℕ) : Type 0 where
   pub unused : f ≤ 63
-  pub number : f % 2 ≡ hasNumber f
-  pub child : f / 4 % 2 ≡ hasChild f
-  pub sibling : f / 16 % 2 ≡ hasSibling f
+  pub number : hasNumber f ≤ f % 2
+  pub child : hasChild f ≤ f / 4 % 2
+  pub sibling : hasSibling f ≤ f / 16 % 2
 
 -- What they ask of the record at the offset `at`, with the flags f and the label length m
 pub record Fine (s ns : List ℕ) (level least path at f m : ℕ) : Type 0 where
   pub head : at + 4 ≤ length s
-  pub pairs : Paired f
+  pub bits : Allocated f
   pub only : hasSibling f ≤ below level
   pub due : 256 * getD s (at + 2) 0 + getD s (at + 3) 0 ≡ level
   pub labelled : below level ≤ m

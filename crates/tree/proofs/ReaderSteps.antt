@@ -39,7 +39,8 @@ kids-from w (gave ks b ns) {t} e =
     let is : t ≡ made = cc in
     (ap (λ u. u .num) is, rw is (cc))
 
-rest-from : (b : ℕ) (l : List ℕ) (t : Tree) (r : Read Forest) {f : Forest} {a : ℕ} {left : List ℕ} → overRest b l t r ≡ gave f a left
+pub rest-from : (b : ℕ) (l : List ℕ) (t : Tree) (r : Read Forest) {f : Forest} {a : ℕ} {left : List ℕ}
+    → overRest b l t r ≡ gave f a left
     → (rest : Forest) × (f ≡ node b l (t .num) (t .kids) rest) × (r ≡ gave rest a left)
 unfolding overRest
 rest-from b l t (refused x) e = never (cc)
@@ -125,12 +126,12 @@ module _ (s ns : List ℕ) (slots : ℕ) where
   abbrev last : (t : Tree) (a : ℕ) (left : List ℕ) → List Rule
   last t a left = lastRules s left a (nodesT t) slots
 
-  read-refused : {x : Told} → root ≡ refused x → readT s ns slots ≡ refusedWith x
+  pub read-refused : {x : Told} → root ≡ refused x → readT s ns slots ≡ refusedWith x
   unfolding readT
   read-refused e = rw (e, readT)
 
-  read-broken : {t : Tree} {a : ℕ} {left : List ℕ} {x : Told} → root ≡ gave t a left → judge (last t a left) ≡ broken x
-      → readT s ns slots ≡ refusedWith x
+  pub read-broken : {t : Tree} {a : ℕ} {left : List ℕ} {x : Told} → root ≡ gave t a left
+      → judge (last t a left) ≡ broken x → readT s ns slots ≡ refusedWith x
   unfolding readT
   read-broken e j = rw (e, readT, j)
 

@@ -10,4 +10,5 @@ pub mod Walk
 pub mod Image
 pub mod Told
 pub mod Reader
+pub mod Cleared
 pub mod Calls

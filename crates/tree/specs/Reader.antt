@@ -41,13 +41,14 @@ unfoldable pub below : ℕ → ℕ
 below zero = 0
 below (suc n) = 1
 
--- The tests of the flag byte f: no unused bit, no unequal pair, no sibling on the root; x is told where one fails.
+-- The tests of the flag byte f: no unused bit, no initialised bit without its allocated one, no sibling on the root; x
+-- is told where one fails. An allocated bit may stand alone.
 abbrev pub flagRules : (f level : ℕ) → Told → List Rule
 flagRules f level x =
     atMost f 63 x
-    ∷ equal (f % 2) (f / 2 % 2) x
-    ∷ equal (f / 4 % 2) (f / 8 % 2) x
-    ∷ equal (f / 16 % 2) (f / 32 % 2) x
+    ∷ atMost (f / 2 % 2) (f % 2) x
+    ∷ atMost (f / 8 % 2) (f / 4 % 2) x
+    ∷ atMost (f / 32 % 2) (f / 16 % 2) x
     ∷ atMost (hasSibling f) (below level) x
     ∷ []
 
