@@ -8,8 +8,8 @@
 
 #define SLOTS 16384
 
-static uint8_t labels[255 * SLOTS];
-static uint32_t words[6 * SLOTS + 8];
+static uint8_t labels[YARNHOLLOW_LABELS(SLOTS)];
+static uint32_t words[YARNHOLLOW_WORDS(SLOTS)];
 static uint8_t image[32768];
 static uint8_t key[4096];
 
@@ -32,10 +32,10 @@ static size_t record(size_t at, int flags, int length, int level, uint8_t byte)
 
 static int chain(int depth)
 {
-    const uint32_t numbers[2] = {1, 2};
+    const uint64_t numbers[2] = {1, 2};
     const size_t lb = sizeof labels, lw = sizeof words / sizeof words[0];
     size_t offset, keys, nodes, left, looked;
-    uint32_t old;
+    uint64_t old;
     double test = 1e18, best = 1e18;
     for (int round = 0; round < 9; round++) {
         size_t at = record(0, 0x0c, 0, 0, 0);

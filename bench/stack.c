@@ -23,7 +23,7 @@ static uint32_t words[YARNHOLLOW_WORDS(SLOTS)], words2[YARNHOLLOW_WORDS(SLOTS)];
 #define POOL2 labels2, YARNHOLLOW_LABELS(SLOTS), words2, YARNHOLLOW_WORDS(SLOTS)
 
 static uint8_t image[4 + 5 * LEVELS], written[4 + 5 * LEVELS], key[LEVELS], fork_key[LEVELS], out[LEVELS];
-static uint32_t numbers[1] = { 1 }, written_numbers[1];
+static uint64_t numbers[1] = { 1 }, written_numbers[1];
 
 /* Every node has one byte and one child, but for the last, which has the number. */
 static void make_image(void)
@@ -55,14 +55,16 @@ static void make_empty(void)
 /* A key of two bytes, which a long key leaves behind its first byte */
 static void make_forked(void)
 {
-    uint32_t had_old = 0, old = 0;
+    uint32_t had_old = 0;
+    uint64_t old = 0;
     size_t looked = 0;
     make_empty();
     if (yarnhollow_insert(POOL, key, 2, 1, &had_old, &old, &looked) != YARNHOLLOW_DONE)
         exit(1);
 }
 
-static uint32_t had_old, number;
+static uint32_t had_old;
+static uint64_t number;
 static size_t length, length2, looked;
 static uint32_t call_make(void) { return yarnhollow_make(POOL); }
 static uint32_t call_clear(void) { return yarnhollow_clear(POOL); }

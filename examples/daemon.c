@@ -4,6 +4,7 @@
  */
 #include "yarnhollow.h"
 
+#include <inttypes.h>
 #include <stdio.h>
 #include <stdlib.h>
 #include <string.h>
@@ -29,7 +30,7 @@ static const uint8_t tree[] = {
     0x0F, 5, 0, 2, 's', 'h', 'o', 'p', '/',
     0x03, 3, 0, 3, 'c', 'a', 't',
 };
-static const uint32_t numbers[] = {10, 11, 20, 21};
+static const uint64_t numbers[] = {10, 11, 20, 21};
 
 /* What a number means. There is no default, so that the compiler names a number that is left out. */
 static const char *meaning(uint32_t number)
@@ -62,7 +63,7 @@ static void must(const char *call, uint32_t number)
     exit(1);
 }
 
-static void load(const char *name, const uint8_t *bytes, size_t bytes_len, const uint32_t *values, size_t values_len)
+static void load(const char *name, const uint8_t *bytes, size_t bytes_len, const uint64_t *values, size_t values_len)
 {
     size_t offset = 0;
     uint32_t number = yarnhollow_read(LENT(&rules), bytes, bytes_len, values, values_len, &offset);
@@ -86,12 +87,12 @@ static void look_up(const char *path)
 {
     const uint8_t *query = (const uint8_t *)path;
     size_t prefix_length = 0, shared_length = 0, looked = 0, looked_again = 0;
-    uint32_t rule = 0;
+    uint64_t rule = 0;
     uint32_t number = yarnhollow_longest(LENT(&rules), query, strlen(path), &prefix_length, &rule, &looked);
 
     must("shared", yarnhollow_shared(LENT(&rules), query, strlen(path), &shared_length, &looked_again));
     if (number == YARNHOLLOW_DONE)
-        printf("%s: rule %u by %.*s", path, (unsigned)rule, (int)prefix_length, path);
+        printf("%s: rule %" PRIu64 " by %.*s", path, rule, (int)prefix_length, path);
     else
         printf("%s: %u, %s", path, (unsigned)number, meaning(number));
     printf("; shares %zu bytes; looked at %zu nodes, and at %zu\n", shared_length, looked, looked_again);
@@ -102,7 +103,8 @@ static void list(const char *prefix)
 {
     static uint8_t room[2][YARNHOLLOW_KEY_MAX];
     size_t last_len = 0, length = 0;
-    uint32_t begun = 0, rule = 0, number;
+    uint64_t rule = 0;
+    uint32_t begun = 0, number;
     int turn = 0;
 
     for (;;) {
@@ -110,7 +112,7 @@ static void list(const char *prefix)
                                  room[turn], sizeof room[turn], &length, &rule);
         if (number != YARNHOLLOW_DONE)
             break;
-        printf("  %.*s = %u\n", (int)length, (const char *)room[turn], (unsigned)rule);
+        printf("  %.*s = %" PRIu64 "\n", (int)length, (const char *)room[turn], rule);
         last_len = length;
         begun = 1;
         turn = 1 - turn;
@@ -119,14 +121,15 @@ static void list(const char *prefix)
         must("next", number);
 }
 
-static void store(const char *key, uint32_t rule)
+static void store(const char *key, uint64_t rule)
 {
-    uint32_t had_old = 0, old = 0;
+    uint32_t had_old = 0;
+    uint64_t old = 0;
     size_t looked = 0;
 
     must("insert", yarnhollow_insert(LENT(&rules), (const uint8_t *)key, strlen(key), rule, &had_old, &old, &looked));
     if (had_old)
-        printf("insert %s: was %u", key, (unsigned)old);
+        printf("insert %s: was %" PRIu64, key, old);
     else
         printf("insert %s: new", key);
     printf("; looked at %zu nodes\n", looked);
@@ -134,12 +137,12 @@ static void store(const char *key, uint32_t rule)
 
 static void drop(const char *key)
 {
-    uint32_t old = 0;
+    uint64_t old = 0;
     size_t looked = 0;
     uint32_t number = yarnhollow_remove(LENT(&rules), (const uint8_t *)key, strlen(key), &old, &looked);
 
     if (number == YARNHOLLOW_DONE)
-        printf("remove %s: was %u", key, (unsigned)old);
+        printf("remove %s: was %" PRIu64, key, old);
     else
         printf("remove %s: %u, %s", key, (unsigned)number, meaning(number));
     printf("; looked at %zu nodes\n", looked);
@@ -161,7 +164,7 @@ static void purge(const char *prefix)
 static void write_back(void)
 {
     static uint8_t image[IMAGE_MAX];
-    static uint32_t values[NUMBERS_MAX];
+    static uint64_t values[NUMBERS_MAX];
     size_t tree_length = 0, numbers_length = 0, i;
     uint32_t number = yarnhollow_write(LENT(&rules), NULL, 0, NULL, 0, &tree_length, &numbers_length);
 
@@ -170,18 +173,19 @@ static void write_back(void)
     for (i = 0; i < tree_length; i++)
         printf("%02X%c", image[i], i + 1 < tree_length ? ' ' : '\n');
     for (i = 0; i < numbers_length; i++)
-        printf("%u%c", (unsigned)values[i], i + 1 < numbers_length ? ' ' : '\n');
+        printf("%" PRIu64 "%c", values[i], i + 1 < numbers_length ? ' ' : '\n');
     load("what was written", image, tree_length, values, numbers_length);
 }
 
 int main(void)
 {
     uint8_t damaged[sizeof tree];
-    uint32_t rule = 7, number;
+    uint64_t rule = 7;
+    uint32_t number;
     size_t looked = 7;
 
     number = yarnhollow_get(LENT(&rules), NULL, 0, &rule, &looked);
-    printf("get before make: %s, rule still %u, looked still %zu\n", meaning(number), (unsigned)rule, looked);
+    printf("get before make: %s, rule still %" PRIu64 ", looked still %zu\n", meaning(number), rule, looked);
     must("make", yarnhollow_make(LENT(&rules)));
     load("image", tree, sizeof tree, numbers, 4);
     memcpy(damaged, tree, sizeof tree);
@@ -193,7 +197,7 @@ int main(void)
     look_up("/shop/cart");
     look_up("/index.html");
     store("/shop/cart", 22);
-    store("/shop/cat", 23);
+    store("/shop/cat", ((uint64_t)7 << 32) + 23);
     drop("/shop/dog");
     list("/shop/");
     purge("/img/");

@@ -1,5 +1,5 @@
 /*
- * Yarnhollow: a rule store for a web cache box. A byte key leads to a 32-bit number; all keys under a prefix can be cut
+ * Yarnhollow: a rule store for a web cache box. A byte key leads to a 64-bit number; all keys under a prefix can be cut
  * out at once; a whole store is written to and read from an image, whose every byte is checked.
  *
  * Link with libhost.a (`rt staticlib host` writes it to target/staticlib/). Of the C library it uses memcpy and memset. It
@@ -82,7 +82,7 @@
  * Write sets both bits of a flag pair or neither; bits 64 and 128 are zero. Read also takes 1, 4 or 16 without the bit above
  * it, on the root too, as if it were not set: older software leaves such a bit behind where it took something out. It refuses
  * with 7 the bits 2, 8 and 32 without the bit below them, 64 and 128, and a sibling of the root. The children of a node ascend
- * by the first byte of their labels. The numbers are those of the nodes that have one, in the same order, each a `uint32_t` as
+ * by the first byte of their labels. The numbers are those of the nodes that have one, in the same order, each a `uint64_t` as
  * the machine has it: a program that stores or sends them settles the order of their bytes itself. So ab = 1 and ac = 2 are
  * the numbers 1, 2 and these 19 bytes:
  *
@@ -110,7 +110,7 @@ extern "C" {
 
 /* The lengths of a pool of `slots` slots: label bytes, and words of four bytes (elements, not bytes). */
 #define YARNHOLLOW_LABELS(slots) ((size_t)255 * (slots))
-#define YARNHOLLOW_WORDS(slots) ((size_t)6 * (slots) + 8)
+#define YARNHOLLOW_WORDS(slots) ((size_t)8 * (slots) + 8)
 
 /* The most slots of a pool, and the most bytes of a key, query or prefix. */
 #define YARNHOLLOW_SLOTS_MAX 16384
@@ -150,7 +150,7 @@ uint32_t yarnhollow_clear(uint8_t *labels, size_t labels_len, uint32_t *words, s
  * Returns 0, 1, 2, or 3 where the key is not stored.
  */
 uint32_t yarnhollow_get(const uint8_t *labels, size_t labels_len, const uint32_t *words, size_t words_len,
-                        const uint8_t *key, size_t key_len, uint32_t *number, size_t *looked);
+                        const uint8_t *key, size_t key_len, uint64_t *number, size_t *looked);
 
 /*
  * Stores a number at a key, in place of the old one, if there is one. With 0, `had_old` is 1 and `old` the old number, or
@@ -158,7 +158,7 @@ uint32_t yarnhollow_get(const uint8_t *labels, size_t labels_len, const uint32_t
  * Returns 0, 1, 2 or 4.
  */
 uint32_t yarnhollow_insert(uint8_t *labels, size_t labels_len, uint32_t *words, size_t words_len,
-                           const uint8_t *key, size_t key_len, uint32_t number, uint32_t *had_old, uint32_t *old,
+                           const uint8_t *key, size_t key_len, uint64_t number, uint32_t *had_old, uint64_t *old,
                            size_t *looked);
 
 /*
@@ -166,14 +166,14 @@ uint32_t yarnhollow_insert(uint8_t *labels, size_t labels_len, uint32_t *words, 
  * Returns 0, 1, 2, or 3 where the key is not stored.
  */
 uint32_t yarnhollow_remove(uint8_t *labels, size_t labels_len, uint32_t *words, size_t words_len,
-                           const uint8_t *key, size_t key_len, uint32_t *old, size_t *looked);
+                           const uint8_t *key, size_t key_len, uint64_t *old, size_t *looked);
 
 /*
  * The longest stored key that the query starts with: its length, and its number. `looked` is stored with 0 and 3.
  * Returns 0, 1, 2, or 3 where no stored key starts the query.
  */
 uint32_t yarnhollow_longest(const uint8_t *labels, size_t labels_len, const uint32_t *words, size_t words_len,
-                            const uint8_t *query, size_t query_len, size_t *prefix_length, uint32_t *number,
+                            const uint8_t *query, size_t query_len, size_t *prefix_length, uint64_t *number,
                             size_t *looked);
 
 /*
@@ -196,7 +196,8 @@ uint32_t yarnhollow_shared(const uint8_t *labels, size_t labels_len, const uint3
  *
  *    static uint8_t room[2][YARNHOLLOW_KEY_MAX];
  *    size_t last_length = 0, key_length = 0;
- *    uint32_t begun = 0, number = 0, returned;
+ *    uint64_t number = 0;
+ *    uint32_t begun = 0, returned;
  *    int turn = 0;
  *
  *    while ((returned = yarnhollow_next(labels, labels_len, words, words_len, prefix, prefix_len, room[1 - turn], last_length,
@@ -212,7 +213,7 @@ uint32_t yarnhollow_shared(const uint8_t *labels, size_t labels_len, const uint3
  */
 uint32_t yarnhollow_next(const uint8_t *labels, size_t labels_len, const uint32_t *words, size_t words_len,
                          const uint8_t *prefix, size_t prefix_len, const uint8_t *last, size_t last_len, uint32_t begun,
-                         uint8_t *out, size_t out_len, size_t *key_length, uint32_t *number);
+                         uint8_t *out, size_t out_len, size_t *key_length, uint64_t *number);
 
 /*
  * Moves every key that starts with the prefix, prefix taken off, into a second pool, whose old contents are given up: of it
@@ -236,7 +237,7 @@ uint32_t yarnhollow_counts(const uint8_t *labels, size_t labels_len, const uint3
  * Returns 0, 1 or 5. Needs 16 KiB of stack.
  */
 uint32_t yarnhollow_write(const uint8_t *labels, size_t labels_len, const uint32_t *words, size_t words_len,
-                          uint8_t *tree, size_t tree_len, uint32_t *numbers, size_t numbers_len,
+                          uint8_t *tree, size_t tree_len, uint64_t *numbers, size_t numbers_len,
                           size_t *tree_length, size_t *numbers_length);
 
 /*
@@ -245,7 +246,7 @@ uint32_t yarnhollow_write(const uint8_t *labels, size_t labels_len, const uint32
  * Returns 0, 1 for wrong lengths, 2, 4 or 6 to 13. Needs 1 MiB of stack, however small the pool.
  */
 uint32_t yarnhollow_read(uint8_t *labels, size_t labels_len, uint32_t *words, size_t words_len,
-                         const uint8_t *tree, size_t tree_len, const uint32_t *numbers, size_t numbers_len,
+                         const uint8_t *tree, size_t tree_len, const uint64_t *numbers, size_t numbers_len,
                          size_t *offset);
 
 #ifdef __cplusplus

@@ -14,6 +14,9 @@ def load_verdicts():
 
 verdicts = load_verdicts()
 
+# Stored numbers at which a half, a sign or the width could go wrong.
+BOUNDARIES = (0, (1 << 32) - 1, 1 << 32, 1 << 63, (1 << 64) - 1)
+
 
 def hexed(key):
     return key.hex() or '-'
@@ -104,7 +107,7 @@ KINDS = ['insert'] * 9 + ['get', 'remove', 'remove', 'longest', 'shared', 'walk'
 def one(r, kind, key):
     p = r.randrange(2)
     if kind == 'insert':
-        return 'insert %d %s %d' % (p, hexed(key()), r.choice((0, 1, r.randrange(1 << 32), (1 << 32) - 1)))
+        return 'insert %d %s %d' % (p, hexed(key()), r.choice((0, 1, r.randrange(1 << 32), r.randrange(1 << 64), r.choice(BOUNDARIES))))
     if kind == 'split':
         q = key()
         return 'split %d %s %d' % (p, hexed(q[:r.randrange(len(q) + 1)]), 1 - p)
@@ -265,6 +268,19 @@ def parted(commands, prefix):
     yield [], 'rust-write 0', [], 0
 
 
+# Each boundary under a key of its own, through every call that has a number.
+def wide_numbers():
+    keys = [b'p%d' % i for i in range(len(BOUNDARIES))]
+    yield 'make 0'
+    yield from ('insert 0 %s %d' % (hexed(k), n) for k, n in zip(keys, BOUNDARIES))
+    yield from show(0) + list(look(0, keys))
+    yield from ['read 1 %s %s' % (hexed(verdicts.image(keys)), listed(BOUNDARIES))] + show(1)
+    yield from ('insert 0 %s %d' % (hexed(k), n) for k, n in zip(keys, BOUNDARIES[1:] + BOUNDARIES[:1]))
+    yield from show(0) + ['split 0 70 1'] + show(0) + show(1)
+    yield from ('remove 1 %s' % hexed(k[1:]) for k in keys)
+    yield from show(1)
+
+
 # Document 01's examples, as far as pools of 128 slots show them, each under a comment with its answer.
 def examples():
     yield '# The empty tree: 00000000 and no numbers; an image of no bytes gives 6.'
@@ -284,6 +300,8 @@ def examples():
     yield from ['clear 0'] + show(0)
     yield '# Inserting gives the old number, if any.'
     yield from build(0, [b'ab', b'ab']) + show(0)
+    yield '# 0, 2^32 - 1, 2^32, 2^63 and 2^64 - 1: stored, walked, written, read; each replaced by the next; split off; removed.'
+    yield from wide_numbers()
     yield '# Inserting a, which ends inside the label of ab, cuts it: 3 nodes.'
     yield from build(0, [b'ab', b'a']) + show(0)
     yield '# A key of 255 bytes is 1 node under the root, one of 256 is 2; 4,096 bytes are 17, 4,097 give 2.'
@@ -358,11 +376,11 @@ def replay():
 # Lines that are no command, lines passed over, and the longest line.
 def odd_lines():
     yield from ('', '#', '# a comment', '#' * 140000, ' ', 'make', 'make ', 'make 2', 'make 0 ', 'make 0 1', ' make 0', 'make  0', 'Make 0')
-    yield from ('insert 0 61', 'insert 0 61 ', 'insert 0 61 01', 'insert 0 61 00', 'insert 0 61 0', 'insert 0 61 4294967295', 'insert 0 61 4294967296')
-    yield from ('insert 0 61 42949672950', 'insert 0 61 -1', 'insert 0 61 -', 'insert 0 6 1', 'insert 0 6A 1', 'insert 0 6g 1', 'insert 0 6/ 1', 'insert 0 6: 1')
+    yield from ('insert 0 61', 'insert 0 61 ', 'insert 0 61 01', 'insert 0 61 00', 'insert 0 61 0', 'insert 0 61 18446744073709551615', 'insert 0 61 18446744073709551616')
+    yield from ('insert 0 61 184467440737095516150', 'insert 0 61 -1', 'insert 0 61 -', 'insert 0 6 1', 'insert 0 6A 1', 'insert 0 6g 1', 'insert 0 6/ 1', 'insert 0 6: 1')
     yield from ('insert 0 6` 1', 'insert 0 61 1 2', 'insert 0  1', 'insert 0 - 7', 'get 0 -', 'get 0 --', 'get 0 61', 'get 0 61 ', 'get 0', 'get 1 61', 'get 01 61')
     yield from ('split 0 61 0', 'split 1 61 1', 'split 0 61 2', 'split 0 61', 'walk 0', 'walk 0 -', 'counts', 'counts 0 0', 'write 0 -', 'read 0 00000000', 'read 0 00000000 -')
-    yield from ('read 0 03000000 5', 'read 0 03000000 5,', 'read 0 03000000 ,5', 'read 0 03000000 5,,5', 'read 0 03000000 05', 'read 0 03000000 4294967296', 'read 0 - -')
+    yield from ('read 0 03000000 5', 'read 0 03000000 5,', 'read 0 03000000 ,5', 'read 0 03000000 5,,5', 'read 0 03000000 05', 'read 0 03000000 18446744073709551615', 'read 0 03000000 18446744073709551616', 'read 0 - -')
     yield from ('read 0 03000000 5,6', 'get 0 -', 'get 0 61\r', 'get 0 \u00e9', 'quit', '?', 'get 0 ' + '61' * 4096, 'get 0 ' + '61' * 4097, 'shared 0 ' + '61' * 4097)
     yield from ('walk 0 ' + '61' * 4097, 'longest 0 ' + '61' * 4097, 'get 0 ' + '61' * 65533, 'get 0 ' + '61' * 65533 + 'a', 'get 0 ' + '61' * 65534)
     yield from ('read 0 00000000 ' + ','.join(['1'] * 65528), 'read 0 00000000 ' + ','.join(['1'] * 65529), 'x' * 131072, 'x' * 131073, 'counts 0')

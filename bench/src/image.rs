@@ -7,7 +7,7 @@ use serde::ser::{Error as _, Impossible, Serialize, SerializeSeq, SerializeTuple
 #[derive(Default)]
 pub struct Image {
     pub tree: Vec<u8>,
-    pub numbers: Vec<u32>,
+    pub numbers: Vec<u64>,
 }
 
 pub fn to_image<T: Serialize>(map: &T) -> Image {
@@ -16,7 +16,7 @@ pub fn to_image<T: Serialize>(map: &T) -> Image {
     image
 }
 
-pub fn from_image<'a, T: Deserialize<'a>>(tree: &'a [u8], numbers: &'a [u32]) -> Result<T, Error> {
+pub fn from_image<'a, T: Deserialize<'a>>(tree: &'a [u8], numbers: &'a [u64]) -> Result<T, Error> {
     T::deserialize(Pair(tree, numbers))
 }
 
@@ -36,10 +36,10 @@ impl<'a> Serializer for &'a mut Image {
     type SerializeStructVariant = Impossible<(), Error>;
 
     refused!(serialize_bool(bool), serialize_i8(i8), serialize_i16(i16), serialize_i32(i32), serialize_i64(i64), serialize_u8(u8),
-        serialize_u16(u16), serialize_u64(u64), serialize_f32(f32), serialize_f64(f64), serialize_char(char), serialize_str(&str),
+        serialize_u16(u16), serialize_u32(u32), serialize_f32(f32), serialize_f64(f64), serialize_char(char), serialize_str(&str),
         serialize_unit_struct(&'static str));
 
-    fn serialize_u32(self, v: u32) -> Result<(), Error> {
+    fn serialize_u64(self, v: u64) -> Result<(), Error> {
         self.numbers.push(v);
         Ok(())
     }
@@ -111,7 +111,7 @@ impl SerializeTuple for &mut Image {
 }
 
 /// The pair handed in: first the bytes, then the numbers.
-struct Pair<'a>(&'a [u8], &'a [u32]);
+struct Pair<'a>(&'a [u8], &'a [u64]);
 
 struct Parts<'a>(Pair<'a>, usize);
 

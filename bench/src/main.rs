@@ -48,7 +48,7 @@ struct Data {
     slots: usize,
     nodes: usize,
     names: Vec<Vec<u8>>,
-    map: PatriciaMap<u32>,
+    map: PatriciaMap<u64>,
     image: Image,
     few: usize,
 }
@@ -59,7 +59,7 @@ impl Data {
             (0..keys).map(|i| format!("/assets/public/shop{}/category{}/item{}", i % 25, i / 25 % 20, 4000 + i).into_bytes()).collect();
         let mut map = PatriciaMap::new();
         for (i, name) in names.iter().enumerate() {
-            map.insert(name, i as u32);
+            map.insert(name, i as u64);
         }
         let mut image = to_image(&map);
         // The Rust's own layout shows in the lower bit of a flag pair; ours has both bits or neither.
@@ -118,7 +118,7 @@ fn changes(data: &Data, pool: &mut Pool, test: f64) -> Vec<Row> {
         let mut sums = [Duration::ZERO; 4];
         for _ in 0..rounds {
             sums[0] += once(|| (0..count).for_each(|i| { black_box(pool.remove(data.name(i))); }));
-            sums[1] += once(|| (0..count).for_each(|i| { black_box(pool.insert(data.name(i), (i * 7 % data.names.len()) as u32)); }));
+            sums[1] += once(|| (0..count).for_each(|i| { black_box(pool.insert(data.name(i), (i * 7 % data.names.len()) as u64)); }));
             sums[2] += once(|| (0..count).for_each(|i| { black_box(map.remove(data.name(i))); }));
             sums[3] += once(|| (0..count).for_each(|i| { black_box(map.insert(data.name(i), 0)); }));
         }
@@ -156,13 +156,13 @@ fn splits(data: &Data, full: &Pool) -> Vec<Row> {
 
 fn images(data: &Data, pool: &mut Pool) -> Vec<Row> {
     let (tree, numbers) = (&data.image.tree, &data.image.numbers);
-    let (mut out, mut values) = (vec![0u8; tree.len()], vec![0u32; numbers.len()]);
+    let (mut out, mut values) = (vec![0u8; tree.len()], vec![0u64; numbers.len()]);
     let write = straight(data.few, || { black_box(pool.write(&mut out, &mut values)); });
     let rust_write = straight(data.few, || { black_box(to_image(&data.map)); });
     assert_eq!((&out, &values), (tree, numbers));
-    assert_eq!(from_image::<PatriciaMap<u32>>(tree, numbers).unwrap().len(), data.names.len());
+    assert_eq!(from_image::<PatriciaMap<u64>>(tree, numbers).unwrap().len(), data.names.len());
     let read = straight(data.few, || pool.read(tree, numbers));
-    let rust_read = straight(data.few, || { black_box(from_image::<PatriciaMap<u32>>(tree, numbers).unwrap()); });
+    let rust_read = straight(data.few, || { black_box(from_image::<PatriciaMap<u64>>(tree, numbers).unwrap()); });
     vec![Row { what: "write", here: write, rust: Some(rust_write) }, Row { what: "read", here: read, rust: Some(rust_read) }]
 }
 

@@ -1,14 +1,14 @@
 //! The store behind its C interface (`include/yarnhollow.h`). Every call is expected to be done.
 #[link(name = "host", kind = "static")]
 unsafe extern "C" {
-    fn yarnhollow_get(labels: *const u8, labels_len: usize, words: *const u32, words_len: usize, key: *const u8, key_len: usize, number: &mut u32, looked: &mut usize) -> u32;
-    fn yarnhollow_insert(labels: *mut u8, labels_len: usize, words: *mut u32, words_len: usize, key: *const u8, key_len: usize, number: u32, had_old: &mut u32, old: &mut u32, looked: &mut usize) -> u32;
-    fn yarnhollow_remove(labels: *mut u8, labels_len: usize, words: *mut u32, words_len: usize, key: *const u8, key_len: usize, old: &mut u32, looked: &mut usize) -> u32;
-    fn yarnhollow_longest(labels: *const u8, labels_len: usize, words: *const u32, words_len: usize, query: *const u8, query_len: usize, prefix_length: &mut usize, number: &mut u32, looked: &mut usize) -> u32;
+    fn yarnhollow_get(labels: *const u8, labels_len: usize, words: *const u32, words_len: usize, key: *const u8, key_len: usize, number: &mut u64, looked: &mut usize) -> u32;
+    fn yarnhollow_insert(labels: *mut u8, labels_len: usize, words: *mut u32, words_len: usize, key: *const u8, key_len: usize, number: u64, had_old: &mut u32, old: &mut u64, looked: &mut usize) -> u32;
+    fn yarnhollow_remove(labels: *mut u8, labels_len: usize, words: *mut u32, words_len: usize, key: *const u8, key_len: usize, old: &mut u64, looked: &mut usize) -> u32;
+    fn yarnhollow_longest(labels: *const u8, labels_len: usize, words: *const u32, words_len: usize, query: *const u8, query_len: usize, prefix_length: &mut usize, number: &mut u64, looked: &mut usize) -> u32;
     fn yarnhollow_split(labels: *mut u8, labels_len: usize, words: *mut u32, words_len: usize, prefix: *const u8, prefix_len: usize, labels2: *mut u8, labels2_len: usize, words2: *mut u32, words2_len: usize) -> u32;
     fn yarnhollow_counts(labels: *const u8, labels_len: usize, words: *const u32, words_len: usize, keys: &mut usize, nodes: &mut usize) -> u32;
-    fn yarnhollow_write(labels: *const u8, labels_len: usize, words: *const u32, words_len: usize, tree: *mut u8, tree_len: usize, numbers: *mut u32, numbers_len: usize, tree_length: &mut usize, numbers_length: &mut usize) -> u32;
-    fn yarnhollow_read(labels: *mut u8, labels_len: usize, words: *mut u32, words_len: usize, tree: *const u8, tree_len: usize, numbers: *const u32, numbers_len: usize, offset: &mut usize) -> u32;
+    fn yarnhollow_write(labels: *const u8, labels_len: usize, words: *const u32, words_len: usize, tree: *mut u8, tree_len: usize, numbers: *mut u64, numbers_len: usize, tree_length: &mut usize, numbers_length: &mut usize) -> u32;
+    fn yarnhollow_read(labels: *mut u8, labels_len: usize, words: *mut u32, words_len: usize, tree: *const u8, tree_len: usize, numbers: *const u64, numbers_len: usize, offset: &mut usize) -> u32;
 }
 
 /// Lookups without the test, which only the benchmark has.
@@ -29,7 +29,7 @@ fn done(number: u32) {
 
 impl Pool {
     pub fn new(slots: usize) -> Pool {
-        Pool { labels: vec![0; 255 * slots], words: vec![0; 6 * slots + 8] }
+        Pool { labels: vec![0; 255 * slots], words: vec![0; 8 * slots + 8] }
     }
 
     pub fn copy_from(&mut self, other: &Pool) {
@@ -43,7 +43,7 @@ impl Pool {
         (keys, nodes)
     }
 
-    pub fn get(&self, key: &[u8]) -> u32 {
+    pub fn get(&self, key: &[u8]) -> u64 {
         let (mut number, mut looked) = (0, 0);
         done(unsafe { yarnhollow_get(self.labels.as_ptr(), self.labels.len(), self.words.as_ptr(), self.words.len(), key.as_ptr(), key.len(), &mut number, &mut looked) });
         number
@@ -53,19 +53,19 @@ impl Pool {
         done(unsafe { probe_gets(self.labels.as_ptr(), self.labels.len(), self.words.as_ptr(), self.words.len(), key.as_ptr(), key.len(), times) });
     }
 
-    pub fn longest(&self, query: &[u8]) -> (usize, u32) {
+    pub fn longest(&self, query: &[u8]) -> (usize, u64) {
         let (mut prefix_length, mut number, mut looked) = (0, 0, 0);
         done(unsafe { yarnhollow_longest(self.labels.as_ptr(), self.labels.len(), self.words.as_ptr(), self.words.len(), query.as_ptr(), query.len(), &mut prefix_length, &mut number, &mut looked) });
         (prefix_length, number)
     }
 
-    pub fn insert(&mut self, key: &[u8], number: u32) -> Option<u32> {
+    pub fn insert(&mut self, key: &[u8], number: u64) -> Option<u64> {
         let (mut had_old, mut old, mut looked) = (0, 0, 0);
         done(unsafe { yarnhollow_insert(self.labels.as_mut_ptr(), self.labels.len(), self.words.as_mut_ptr(), self.words.len(), key.as_ptr(), key.len(), number, &mut had_old, &mut old, &mut looked) });
         (had_old == 1).then_some(old)
     }
 
-    pub fn remove(&mut self, key: &[u8]) -> u32 {
+    pub fn remove(&mut self, key: &[u8]) -> u64 {
         let (mut old, mut looked) = (0, 0);
         done(unsafe { yarnhollow_remove(self.labels.as_mut_ptr(), self.labels.len(), self.words.as_mut_ptr(), self.words.len(), key.as_ptr(), key.len(), &mut old, &mut looked) });
         old
@@ -77,12 +77,12 @@ impl Pool {
         });
     }
 
-    pub fn read(&mut self, tree: &[u8], numbers: &[u32]) {
+    pub fn read(&mut self, tree: &[u8], numbers: &[u64]) {
         let mut offset = 0;
         done(unsafe { yarnhollow_read(self.labels.as_mut_ptr(), self.labels.len(), self.words.as_mut_ptr(), self.words.len(), tree.as_ptr(), tree.len(), numbers.as_ptr(), numbers.len(), &mut offset) });
     }
 
-    pub fn write(&self, tree: &mut [u8], numbers: &mut [u32]) -> (usize, usize) {
+    pub fn write(&self, tree: &mut [u8], numbers: &mut [u64]) -> (usize, usize) {
         let (mut tree_length, mut numbers_length) = (0, 0);
         done(unsafe {
             yarnhollow_write(self.labels.as_ptr(), self.labels.len(), self.words.as_ptr(), self.words.len(), tree.as_mut_ptr(), tree.len(), numbers.as_mut_ptr(), numbers.len(), &mut tree_length, &mut numbers_length)

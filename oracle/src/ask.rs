@@ -29,7 +29,7 @@ fn keys(map: &Map) -> String {
     if all.is_empty() { "-".into() } else { all.join(",") }
 }
 
-fn loaded(tree: &[u8], numbers: &[u32], then: impl FnOnce(Map) -> String) -> String {
+fn loaded(tree: &[u8], numbers: &[u64], then: impl FnOnce(Map) -> String) -> String {
     caught(|| match from_image::<Map>(tree, numbers) {
         Err(why) => format!("refused {why}"),
         Ok(map) => then(map),
@@ -41,7 +41,7 @@ fn took(map: &Map) -> String {
     format!("took {} {} {} {}", hex(&tree), list(&numbers), map.len(), keys(map))
 }
 
-fn shown(n: Option<u32>) -> String {
+fn shown(n: Option<u64>) -> String {
     n.map_or("-".into(), |n| n.to_string())
 }
 

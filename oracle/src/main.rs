@@ -16,7 +16,7 @@ use records::{nodes, pairs_agree, under};
 use std::io::{BufRead, BufReader, BufWriter, Write};
 use words::{Word, hex, list, number};
 
-pub type Map = PatriciaMap<u32>;
+pub type Map = PatriciaMap<u64>;
 
 /// The slots of a pool, the bytes of a key, and the bytes of a line.
 const SLOTS: usize = 128;
@@ -24,7 +24,7 @@ const KEY_MAX: usize = 4096;
 const LINE_MAX: usize = 131_072;
 
 /// What `write` prints: flags have both bits of a pair or neither.
-pub fn image_of(map: &Map) -> (Vec<u8>, Vec<u32>) {
+pub fn image_of(map: &Map) -> (Vec<u8>, Vec<u64>) {
     let made = to_image(map);
     (pairs_agree(&made.tree), made.numbers)
 }
@@ -34,7 +34,7 @@ fn searched(map: &Map, key: &[u8], answer: String) -> String {
     format!("{answer} /{}", looked(&to_image(map).tree, key))
 }
 
-fn insert(map: &mut Map, key: &[u8], n: u32) -> String {
+fn insert(map: &mut Map, key: &[u8], n: u64) -> String {
     if key.len() > KEY_MAX {
         return "2".into();
     }
@@ -150,7 +150,7 @@ fn write(map: &Map) -> String {
 
 /// The strict reader of document 01 decides; what it takes, the Rust has to take too, and to write again byte for byte, but
 /// for allocated bits that stand alone.
-fn read(map: &mut Map, tree: &[u8], numbers: &[u32]) -> String {
+fn read(map: &mut Map, tree: &[u8], numbers: &[u64]) -> String {
     if let Err(refusal) = strict::check(tree, numbers.len(), SLOTS) {
         return refusal;
     }

@@ -4,7 +4,7 @@
 pub trait Word {
     fn pool(&self) -> Option<usize>;
     fn bytes(&self) -> Option<Vec<u8>>;
-    fn numbers(&self) -> Option<Vec<u32>>;
+    fn numbers(&self) -> Option<Vec<u64>>;
 }
 
 fn digit(b: u8) -> Option<u8> {
@@ -15,16 +15,16 @@ fn digit(b: u8) -> Option<u8> {
     }
 }
 
-pub fn number(word: &[u8]) -> Option<u32> {
+pub fn number(word: &[u8]) -> Option<u64> {
     if word.is_empty() || (word.len() > 1 && word[0] == b'0') {
         return None;
     }
-    let mut n: u32 = 0;
+    let mut n: u64 = 0;
     for &b in word {
         if !b.is_ascii_digit() {
             return None;
         }
-        n = n.checked_mul(10)?.checked_add((b - b'0') as u32)?;
+        n = n.checked_mul(10)?.checked_add((b - b'0') as u64)?;
     }
     Some(n)
 }
@@ -46,7 +46,7 @@ impl Word for [u8] {
         }
         self.chunks(2).map(|two| Some(digit(two[0])? * 16 + digit(two[1])?)).collect()
     }
-    fn numbers(&self) -> Option<Vec<u32>> {
+    fn numbers(&self) -> Option<Vec<u64>> {
         if self == b"-" {
             return Some(Vec::new());
         }
@@ -61,9 +61,9 @@ pub fn hex(bytes: &[u8]) -> String {
     bytes.iter().map(|b| format!("{b:02x}")).collect()
 }
 
-pub fn list(numbers: &[u32]) -> String {
+pub fn list(numbers: &[u64]) -> String {
     if numbers.is_empty() {
         return "-".into();
     }
-    numbers.iter().map(u32::to_string).collect::<Vec<_>>().join(",")
+    numbers.iter().map(u64::to_string).collect::<Vec<_>>().join(",")
 }

@@ -165,7 +165,7 @@ pub fn bytes_behind(bytes: &[u8], n: usize) -> &[u8]
 }
 
 // The first n numbers of a run, or all of it.
-pub fn first_numbers(numbers: &[u32], n: usize) -> &[u32]
+pub fn first_numbers(numbers: &[u64], n: usize) -> &[u64]
     ensures { λ r. ⌜ now r ≡ take n (now (numbers .entry)) ⌝ }
 {
     if n < numbers.len() {
@@ -230,7 +230,7 @@ fn with_number(key: usize, word: &[u8]) -> Words {
 }
 
 // The numbers of an image.
-fn with_numbers(key: usize, word: &[u8], numbers: &mut [u32]) -> Words {
+fn with_numbers(key: usize, word: &[u8], numbers: &mut [u64]) -> Words {
     let Taken::Count(count) = line::numbers(word, numbers) else {
         return bad();
     };
@@ -309,7 +309,7 @@ fn more_words(
     key: usize,
     rest: &[u8],
     room: &mut [u8],
-    numbers: &mut [u32],
+    numbers: &mut [u64],
 ) -> Words {
     let verb = command.verb;
     let pool = command.pool;
@@ -323,7 +323,7 @@ fn more_words(
 }
 
 // The words behind the pool's name. The first, if there is one, is hex.
-fn words_of(command: Command, line: &[u8], bytes: &mut [u8], numbers: &mut [u32]) -> Words {
+fn words_of(command: Command, line: &[u8], bytes: &mut [u8], numbers: &mut [u64]) -> Words {
     let verb = command.verb;
     let end = command.end;
     if end >= line.len() {
@@ -354,7 +354,7 @@ fn is_comment(line: &[u8]) -> bool
 }
 
 // What a line of n bytes asks for; the room holds as many of them as fit. A comment is passed over, however long it is.
-pub fn hear(line: &[u8], n: usize, bytes: &mut [u8], numbers: &mut [u32]) -> Heard
+pub fn hear(line: &[u8], n: usize, bytes: &mut [u8], numbers: &mut [u64]) -> Heard
     ensures { λ r. ⌜ HeardOf r (now (line .entry)) n ⌝ }
 {
     if n == 0 {

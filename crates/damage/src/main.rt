@@ -23,14 +23,14 @@ fn same(a: Loaded, b: Loaded) -> bool {
 }
 
 // Reads an image into six slots of their own.
-fn read(image: &[u8], numbers: &[u32]) -> Loaded {
+fn read(image: &[u8], numbers: &[u64]) -> Loaded {
     let mut labels = [0u8; 1530];
-    let mut words = [0u32; 44];
+    let mut words = [0u32; 56];
     reader::read(&mut labels, &mut words, image, numbers)
 }
 
 // Reads the first n bytes, of an image that has so many.
-fn read_front(image: &[u8], numbers: &[u32], n: usize) -> Loaded {
+fn read_front(image: &[u8], numbers: &[u64], n: usize) -> Loaded {
     if n > image.len() {
         return Loaded::NotPool;
     }
@@ -50,7 +50,7 @@ fn set_byte(image: &mut [u8], at: usize, byte: u8) {
     }
 }
 
-fn cut(image: &[u8], numbers: &[u32], n: usize) {
+fn cut(image: &[u8], numbers: &[u64], n: usize) {
     print::text(b"cut");
     print::value(n as u64);
     print::text(b":");
@@ -58,7 +58,7 @@ fn cut(image: &[u8], numbers: &[u32], n: usize) {
     print::text(b"\n");
 }
 
-fn cuts(image: &[u8], numbers: &[u32]) {
+fn cuts(image: &[u8], numbers: &[u64]) {
     let mut n: usize = 0;
     while n < image.len() {
         cut(image, numbers, n);
@@ -79,7 +79,7 @@ fn tell(byte: u8, answer: Loaded, last: Loaded) -> Loaded {
 }
 
 // Every value of the byte at a place. No image here gets NotPool, so the first verdict is printed.
-fn values(image: &mut [u8], numbers: &[u32], at: usize) {
+fn values(image: &mut [u8], numbers: &[u64], at: usize) {
     let was = byte_at(image, at);
     let mut last = Loaded::NotPool;
     let mut v: usize = 0;
@@ -91,7 +91,7 @@ fn values(image: &mut [u8], numbers: &[u32], at: usize) {
     set_byte(image, at, was);
 }
 
-fn place(image: &mut [u8], numbers: &[u32], at: usize) {
+fn place(image: &mut [u8], numbers: &[u64], at: usize) {
     print::text(b"byte");
     print::value(at as u64);
     print::text(b":");
@@ -99,7 +99,7 @@ fn place(image: &mut [u8], numbers: &[u32], at: usize) {
     print::text(b"\n");
 }
 
-fn changes(image: &mut [u8], numbers: &[u32]) {
+fn changes(image: &mut [u8], numbers: &[u64]) {
     let n = image.len();
     let mut at: usize = 0;
     while at < n {
@@ -109,7 +109,7 @@ fn changes(image: &mut [u8], numbers: &[u32]) {
 }
 
 // Cuts and changes the first n bytes.
-fn damage_front(image: &mut [u8], numbers: &[u32], n: usize) {
+fn damage_front(image: &mut [u8], numbers: &[u64], n: usize) {
     if n <= image.len() {
         cuts(&image[0..n], numbers);
         changes(&mut image[0..n], numbers);
@@ -119,7 +119,7 @@ fn damage_front(image: &mut [u8], numbers: &[u32], n: usize) {
 // The image of the tree that a pool holds, cut and changed.
 fn damage(labels: &[u8], words: &[u32]) {
     let mut image = [0u8; 64];
-    let mut numbers = [0u32; 8];
+    let mut numbers = [0u64; 8];
     if let Written::Lengths(n, k) = writer::write(labels, words, &mut image, &mut numbers) {
         print::text(b"image");
         print::value(n as u64);
@@ -138,7 +138,7 @@ fn put(labels: &mut [u8], words: &mut [u32], key: &[u8], v: RuleNo) {
 // The image of the tree of up to four keys; one that is given twice is stored once.
 fn tree_of(a: &[u8], b: &[u8], c: &[u8], d: &[u8]) {
     let mut labels = [0u8; 4080];
-    let mut words = [0u32; 104];
+    let mut words = [0u32; 136];
     pool::make(&mut labels, &mut words);
     put(&mut labels, &mut words, a, RuleNo(1));
     put(&mut labels, &mut words, b, RuleNo(2));
@@ -149,7 +149,7 @@ fn tree_of(a: &[u8], b: &[u8], c: &[u8], d: &[u8]) {
 
 fn empty_tree() {
     let mut labels = [0u8; 255];
-    let mut words = [0u32; 14];
+    let mut words = [0u32; 16];
     pool::make(&mut labels, &mut words);
     damage(&labels, &words);
 }

@@ -1,6 +1,6 @@
 // The store for a C program: one exported function a call. Each hands its call's answer on as document 01's number, and the
 // values besides through the results that the caller lends. `include/yarnhollow.h` is what a C program reads. A stored number
-// is a `RuleNo` inside; only the edge to C has 32 bits.
+// is a `RuleNo` inside; only the edge to C has plain 64 bits.
 ghost use mathlib.Core.Path.{_≡_};
 ghost use mathlib.Core.List.{[], _∷_};
 ghost use Rattle.tree.specs.Calls.{makeCall, clearCall, getCall, insertCall, removeCall, longestCall, sharedCall};
@@ -37,7 +37,7 @@ pub extern "C" fn yarnhollow_get(
     labels: &[u8],
     words: &[u32],
     key: &[u8],
-    number: &mut u32,
+    number: &mut u64,
     looked: &mut usize,
 ) -> u32
     ensures { λ r. do
@@ -56,9 +56,9 @@ pub extern "C" fn yarnhollow_insert(
     labels: &mut [u8],
     words: &mut [u32],
     key: &[u8],
-    number: u32,
+    number: u64,
     had_old: &mut u32,
-    old: &mut u32,
+    old: &mut u64,
     looked: &mut usize,
 ) -> u32
     ensures { λ r. do
@@ -78,7 +78,7 @@ pub extern "C" fn yarnhollow_remove(
     labels: &mut [u8],
     words: &mut [u32],
     key: &[u8],
-    old: &mut u32,
+    old: &mut u64,
     looked: &mut usize,
 ) -> u32
     ensures { λ r. do
@@ -99,7 +99,7 @@ pub extern "C" fn yarnhollow_longest(
     words: &[u32],
     query: &[u8],
     prefix_length: &mut usize,
-    number: &mut u32,
+    number: &mut u64,
     looked: &mut usize,
 ) -> u32
     ensures { λ r. do
@@ -153,7 +153,7 @@ pub extern "C" fn yarnhollow_next(
     begun: u32,
     out: &mut [u8],
     key_length: &mut usize,
-    number: &mut u32,
+    number: &mut u64,
 ) -> u32
     ensures { λ r. do
       let t = treeIn (before labels words)
@@ -208,7 +208,7 @@ pub extern "C" fn yarnhollow_write(
     labels: &[u8],
     words: &[u32],
     tree: &mut [u8],
-    numbers: &mut [u32],
+    numbers: &mut [u64],
     tree_length: &mut usize,
     numbers_length: &mut usize,
 ) -> u32
@@ -228,7 +228,7 @@ pub extern "C" fn yarnhollow_read(
     labels: &mut [u8],
     words: &mut [u32],
     tree: &[u8],
-    numbers: &[u32],
+    numbers: &[u64],
     offset: &mut usize,
 ) -> u32
     ensures { λ r. do

@@ -15,7 +15,7 @@ use tree::Stepped;
 use tree::Written;
 
 // How many nodes were looked at is told with 0 and with 3, so the last result of a search is stored with both.
-pub fn store_got(answer: Got, number: &mut u32, looked: &mut usize)
+pub fn store_got(answer: Got, number: &mut u64, looked: &mut usize)
     ensures { λ _. do
       let due = overLast (gotTold answer .values) (now (number .entry) ∷ now (looked .entry) ∷ [])
       ⌜ HoldTwo due (now (number .exit)) (now (looked .exit)) ⌝ }
@@ -32,7 +32,7 @@ pub fn store_got(answer: Got, number: &mut u32, looked: &mut usize)
 }
 
 // Whether insert found an old number is told only where it is done.
-pub fn store_inserted(answer: Inserted, had_old: &mut u32, old: &mut u32, looked: &mut usize)
+pub fn store_inserted(answer: Inserted, had_old: &mut u32, old: &mut u64, looked: &mut usize)
     ensures { λ _. do
       let results = now («had_old» .entry) ∷ now (old .entry) ∷ now (looked .entry) ∷ []
       let due = overFlagged (insertedTold answer .values) results
@@ -57,7 +57,7 @@ pub fn store_inserted(answer: Inserted, had_old: &mut u32, old: &mut u32, looked
 pub fn store_prefixed(
     answer: Prefixed,
     prefix_length: &mut usize,
-    number: &mut u32,
+    number: &mut u64,
     looked: &mut usize,
 )
     ensures { λ _. do
@@ -93,7 +93,7 @@ pub fn store_sharing(answer: Sharing, shared_length: &mut usize, looked: &mut us
 }
 
 // The length is that of the key given, or of the one that the output is too short for.
-pub fn store_stepped(answer: Stepped, key_length: &mut usize, number: &mut u32)
+pub fn store_stepped(answer: Stepped, key_length: &mut usize, number: &mut u64)
     ensures { λ _. do
       let told = steppedTold answer
       let n = «key_length»

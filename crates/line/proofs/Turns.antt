@@ -73,14 +73,14 @@ pub record Valuing (s : List ℕ) (n i : ℕ) : Type 0 where
   pub within : i ≤ length s
   pub each : (j : ℕ) → j < i → nibble (getD s j 0) < 10
   pub so : n ≡ value s i
-  pub small : n < 4294967296
+  pub small : n < 18446744073709551616
 
 pub valuing-none : (s : List ℕ) → Valuing s 0 0
 unfolding value
 valuing-none s = record { within = omega arith; each = λ j h. absurd (omega arith); so = refl; small = omega arith }
 
-pub valuing-step : (s : List ℕ) (n i d m : ℕ) → i < length s → d ≡ nibble (getD s i 0) → d < 10 → m ≡ 10 * n + d → m < 4294967296
-    → Valuing s n i → Valuing s m (i + 1)
+pub valuing-step : (s : List ℕ) (n i d m : ℕ) → i < length s → d ≡ nibble (getD s i 0) → d < 10 → m ≡ 10 * n + d
+    → m < 18446744073709551616 → Valuing s n i → Valuing s m (i + 1)
 valuing-step s n i d m room ed bd em bm was =
     record {
       within = omega arith;

@@ -50,10 +50,10 @@ unfoldable pub value : List ℕ → ℕ → ℕ
 value s zero = 0
 value s (suc n) = 10 * value s n + nibble (getD s n 0)
 
--- Decimal digits of a number of 32 bits
+-- Decimal digits of a number of 64 bits
 pub record Decimal (s : List ℕ) : Type 0 where
   pub each : (i : ℕ) → i < length s → nibble (getD s i 0) < 10
-  pub fits : value s (length s) < 4294967296
+  pub fits : value s (length s) < 18446744073709551616
 
 abbrev pub DecimalTaken : Numeral → List ℕ → Type 0
 DecimalTaken (Numeral.Is n) s = Decimal s × (n ≡ value s (length s))

@@ -5,6 +5,9 @@ ghost use mathlib.Core.Path.{_≡_};
 ghost use Rattle.line.specs.Spelling.{FirstWord, HexTaken, KeyTaken, DecimalTaken, NumberTaken, ManyTaken, ListTaken};
 ghost use Rattle.line.specs.Spelling.{nibble as Spelling·nibble};
 
+// The largest number of 64 bits.
+const LARGEST: u64 = 18446744073709551615;
+
 // How many bytes or numbers a word has given, at the front of the room lent for them.
 pub enum Taken {
     Count(usize),
@@ -12,7 +15,7 @@ pub enum Taken {
 }
 
 pub enum Numeral {
-    Is(u32),
+    Is(u64),
     Bad,
 }
 
@@ -82,24 +85,24 @@ pub fn key(s: &[u8], out: &mut [u8]) -> Taken
     hex(s, out)
 }
 
-// The digits of a number of 32 bits.
+// The digits of a number of 64 bits. Whether 10 * n + d fits is seen before it is computed.
 fn digits(s: &[u8]) -> Numeral
     ensures { λ r. ⌜ DecimalTaken r (now (s .entry)) ⌝ }
 {
     let mut n: u64 = 0;
     let mut i: usize = 0;
     while i < s.len() {
-        let d = nibble(s[i]);
+        let d = nibble(s[i]) as u64;
         if d > 9 {
             return Numeral::Bad;
         }
-        n = 10 * n + d as u64;
-        if n > 4294967295 {
+        if n > (LARGEST - d) / 10 {
             return Numeral::Bad;
         }
+        n = 10 * n + d;
         i += 1;
     }
-    Numeral::Is(n as u32)
+    Numeral::Is(n)
 }
 
 // A number without leading zeros.
@@ -119,7 +122,7 @@ pub fn number(s: &[u8]) -> Numeral
 }
 
 // Numbers joined by commas.
-fn many(s: &[u8], out: &mut [u32]) -> Taken
+fn many(s: &[u8], out: &mut [u64]) -> Taken
     ensures { λ r. ⌜ ManyTaken r (now (s .entry)) (now (out .exit)) ⌝ }
 {
     let mut at: usize = 0;
@@ -140,7 +143,7 @@ fn many(s: &[u8], out: &mut [u32]) -> Taken
 }
 
 // The numbers of an image.
-pub fn numbers(s: &[u8], out: &mut [u32]) -> Taken
+pub fn numbers(s: &[u8], out: &mut [u64]) -> Taken
     ensures { λ r. ⌜ ListTaken r (now (s .entry)) (now (out .exit)) ⌝ }
 {
     if check::same(s, b"-") {

@@ -1,5 +1,5 @@
 -- What counts of a pool. All else in the lent slices is free (docs/POOL.md): words 1 to 7, what stands in free slots and behind a
--- label's length, each slot's unused word, and the number of a slot that has none.
+-- label's length, each slot's unused words, and the number of a slot that has none.
 use mathlib.Core.Path.{_≡_}
 use Prim.Native.Nat.{ℕ, _<_}
 use Rattle.slots.specs.Layout.{nodesOf}

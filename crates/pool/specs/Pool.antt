@@ -20,7 +20,7 @@ most a b = atMost a b (refusal 1)
 abbrev pub is : ℕ → ℕ → Rule
 is a b = equal a b (refusal 1)
 
--- The lengths: S slots, from 1 to 16,384, are 255·S bytes and 6·S + 8 words.
+-- The lengths: S slots, from 1 to 16,384, are 255·S bytes and 8·S + 8 words.
 abbrev pub lengthRules : (ws bs : List ℕ) (slots : ℕ) → List Rule
 lengthRules ws bs slots = most 1 slots ∷ most slots 16384 ∷ is (length bs) (bytesFor slots) ∷ is (length ws) (wordsFor slots) ∷ []
 

@@ -80,15 +80,15 @@ pub fn hex(bytes: &[u8]) {
     long_hex(bytes);
 }
 
-fn behind_comma(n: u32) {
+fn behind_comma(n: u64) {
     text(b",");
-    number(n as u64);
+    number(n);
 }
 
-fn many(numbers: &[u32])
+fn many(numbers: &[u64])
     requires { ⌜ 0 < length (now numbers) ⌝ }
 {
-    number(numbers[0] as u64);
+    number(numbers[0]);
     let mut i: usize = 1;
     while i < numbers.len() {
         behind_comma(numbers[i]);
@@ -97,7 +97,7 @@ fn many(numbers: &[u32])
 }
 
 // Numbers joined by commas, `-` for none.
-pub fn list(numbers: &[u32]) {
+pub fn list(numbers: &[u64]) {
     if numbers.len() == 0 {
         text(b"-");
         return;

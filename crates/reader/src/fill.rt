@@ -28,7 +28,7 @@ struct Cursor {
 }
 
 // The number of a record that has one, and 0 for one that has none.
-fn number_due(numbers: &[u32], next: usize, has: usize) -> RuleNo
+fn number_due(numbers: &[u64], next: usize, has: usize) -> RuleNo
     requires { ⌜ next + has ≤ length (now numbers) ⌝ }
     ensures { λ r. ⌜ numOf has (r .0) ≡ numOf has (getD (now (numbers .entry)) next 0) ⌝ }
 {
@@ -44,7 +44,7 @@ fn fill_slot(
     labels: &mut [u8],
     words: &mut [u32],
     tree: &[u8],
-    numbers: &[u32],
+    numbers: &[u64],
     path: usize,
     from: Cursor,
 )
@@ -103,7 +103,7 @@ fn path_of(x: u16) -> usize
 // Writes every record into its slot, but for the spans, and gives their count. A node's children start where its label
 // ends: it leaves that in the table at their level, where they find it. Nothing writes there before the next node of its
 // own level, and by then they have been passed. Counterpart: `set_child` and `set_sibling`.
-fn fill_records(labels: &mut [u8], words: &mut [u32], tree: &[u8], numbers: &[u32]) -> usize
+fn fill_records(labels: &mut [u8], words: &mut [u32], tree: &[u8], numbers: &[u64]) -> usize
     requires { ⌜ RecordsDue (now tree) (now numbers) (now words) (now labels) ⌝ }
     ensures { λ r. do
       let s = now (tree .entry)
@@ -129,7 +129,7 @@ fn fill_records(labels: &mut [u8], words: &mut [u32], tree: &[u8], numbers: &[u3
 }
 
 // The whole tree: its records, and then their count and their spans.
-pub fn fill_tree(labels: &mut [u8], words: &mut [u32], tree: &[u8], numbers: &[u32])
+pub fn fill_tree(labels: &mut [u8], words: &mut [u32], tree: &[u8], numbers: &[u64])
     requires { ⌜ FillDue (now tree) (now numbers) (now words) (now labels) ⌝ }
     ensures { λ _. do
       let ws = now (words .entry)

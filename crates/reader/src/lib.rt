@@ -277,7 +277,7 @@ fn answer(verdict: Checked) -> Loaded
 
 // Reads an image into a pool, of which only the lengths are tested: old contents don't matter. With any number but 0 no lent
 // byte or word has changed. Counterpart: `KeyAndNode::deserialize`.
-pub fn read(labels: &mut [u8], words: &mut [u32], tree: &[u8], numbers: &[u32]) -> Loaded
+pub fn read(labels: &mut [u8], words: &mut [u32], tree: &[u8], numbers: &[u64]) -> Loaded
     ensures { λ r. do
       let was = before labels words
       ⌜ ReadAllows (now (tree .entry)) (now (numbers .entry)) r was (after labels words) ⌝ }

@@ -13,7 +13,7 @@ const KEYS: usize = 128;
 // The largest image of 128 slots: the root's 4 bytes, and 259 for each other.
 fn write(labels: &[u8], words: &[u32]) {
     let mut tree = [0u8; 32897];
-    let mut numbers = [0u32; 128];
+    let mut numbers = [0u64; 128];
     let answer = writer::write(labels, words, &mut tree, &mut numbers);
     tell::written(answer, &tree, &numbers);
 }
@@ -80,7 +80,7 @@ fn run(
     verb: Verb,
     said: Words,
     bytes: &[u8],
-    numbers: &[u32],
+    numbers: &[u64],
 ) {
     let key = command::first_bytes(bytes, said.key);
     match verb {
@@ -114,12 +114,12 @@ fn divide(
 // What was heard is answered, on the pool that it names.
 fn respond(
     labels: &mut [u8; 32640],
-    words: &mut [u32; 776],
+    words: &mut [u32; 1032],
     labels2: &mut [u8; 32640],
-    words2: &mut [u32; 776],
+    words2: &mut [u32; 1032],
     heard: Heard,
     bytes: &[u8; 65536],
-    numbers: &[u32; 65536],
+    numbers: &[u64; 65536],
 ) {
     let Heard::Asks(order, said) = heard else {
         return;
@@ -151,12 +151,12 @@ fn hear(
     line: &[u8; 131072],
     n: usize,
     bytes: &mut [u8; 65536],
-    numbers: &mut [u32; 65536],
+    numbers: &mut [u64; 65536],
 ) -> Heard {
     command::hear(line, n, bytes, numbers)
 }
 
-fn make(labels: &mut [u8; 32640], words: &mut [u32; 776]) {
+fn make(labels: &mut [u8; 32640], words: &mut [u32; 1032]) {
     pool::make(labels, words);
 }
 
@@ -164,13 +164,13 @@ fn make(labels: &mut [u8; 32640], words: &mut [u32; 776]) {
 // from a number that no run uses up.
 fn main() {
     let mut labels = [0u8; 32640];
-    let mut words = [0u32; 776];
+    let mut words = [0u32; 1032];
     let mut labels2 = [0u8; 32640];
-    let mut words2 = [0u32; 776];
+    let mut words2 = [0u32; 1032];
     let mut line = [0u8; 131072];
     let mut chunk = [0u8; 4096];
     let mut bytes = [0u8; 65536];
-    let mut numbers = [0u32; 65536];
+    let mut numbers = [0u64; 65536];
     make(&mut labels, &mut words);
     make(&mut labels2, &mut words2);
     let mut next = input::start();

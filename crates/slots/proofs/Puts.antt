@@ -3,48 +3,49 @@ use mathlib.Core.Path.{_≡_, refl, sym, ap, _∙_}
 use mathlib.Core.List.{List, [], _∷_}
 use Prim.Native.Nat.{ℕ, suc, _+_, _*_, _-_, _≤_, _<_}
 use native.Mathlib.Omega.{arith}
-use lib.ListN.{length, getD, set, take, drop, length-take, length-drop}
-use lib.Seq.{sets, length-sets, getD-set-other, getD-take, getD-drop, ext-getD}
+use lib.ListN.{length, getD, set, take, drop, length-set, length-take, length-drop}
+use lib.Seq.{getD-set-same, getD-set-other, getD-take, getD-drop, ext-getD}
 use borrow.Rule.Slice.PartMut.{putMid}
 use Rattle.tree.specs.Map.{Num}
 use Rattle.label.proofs.Moves.{by-lt}
 use Rattle.slots.specs.declared.put.Head.{Head}
-use Rattle.slots.specs.Layout.{labelRoom, usedWords, bytesFor, WordsIn, RoomIn, fieldAt, startField, lenField, hasField, numberField, spanField, startOf, lenOf, hasOf, numberOf, spanOf, labelOf, numOf}
+use Rattle.slots.specs.Layout.{labelRoom, usedWords, bytesFor, WordsIn, RoomIn, fieldAt, startField, lenField, hasField, lowField, spanField, highField, startOf, lenOf, hasOf, numberOf, spanOf, labelOf, numOf}
 use Rattle.slots.specs.Records.{Rec, recAt}
-use Rattle.slots.specs.Put.{wordsOf, wordsPut, WordsPut, LabelPut, SlotPut, recOf}
-use Rattle.slots.specs.Bare.{bareOf, HeadOf, Filled}
-use Rattle.slots.proofs.Slots.{bare-of, sets-low, sets-high, sets-mid, label-put-eq, put-length, put-low, put-high, put-label-is, num-read}
+use Rattle.slots.specs.Put.{wordsPut, WordsPut, LabelPut, SlotPut, recOf}
+use Rattle.slots.specs.Bare.{fieldsPut, bareOf, HeadOf, Filled}
+use Rattle.slots.proofs.Slots.{number-same, fields-length, fields-low, fields-high, fields-start, fields-len, fields-has, fields-number, bare-of, label-put-eq, put-length, put-low, put-high, put-label-is, num-read}
 
--- The words of a slot, set one after another
-pub words-set : (ws ws₁ ws₂ ws₃ ws₄ vs : List ℕ) (i : ℕ) (h : Head) → ws₁ ≡ set ws (fieldAt i startField) (h .start)
-    → ws₂ ≡ set ws₁ (fieldAt i lenField) (h .len) → ws₃ ≡ set ws₂ (fieldAt i hasField) (h .has)
-    → ws₄ ≡ set ws₃ (fieldAt i numberField) (h .number .0) → vs ≡ set ws₄ (fieldAt i spanField) (h .span) → vs ≡ wordsPut ws i h
-unfolding wordsPut
-words-set ws ws₁ ws₂ ws₃ ws₄ vs i h a b c d e =
-    let e₁ : suc (fieldAt i startField) ≡ fieldAt i lenField = omega arith in
-    let e₂ : suc (fieldAt i lenField) ≡ fieldAt i hasField = omega arith in
-    let e₃ : suc (fieldAt i hasField) ≡ fieldAt i numberField = omega arith in
-    let e₄ : suc (fieldAt i numberField) ≡ fieldAt i spanField = omega arith in
-    rw (e, d, c, b, a) (simp (e₁, e₂, e₃, e₄))
-
--- They are then there, and no other word has changed.
+-- The words of a slot are then there, and no other word has changed.
 pub words-put : (ws vs : List ℕ) (i : ℕ) (h : Head) → WordsIn ws i → vs ≡ wordsPut ws i h → WordsPut ws vs i h
 unfolding wordsPut
 words-put ws vs i h room e =
-    let first = fieldAt i startField in
-    let at : (j k : ℕ) → j < usedWords → k ≡ first + j → getD (sets ws first (wordsOf h)) k 0 ≡ getD (wordsOf h) j 0 =
-    λ j k l q. sets-mid ws first (wordsOf h) j k (omega arith) l q in
+    let start = h .start in
+    let len = h .len in
+    let has = h .has in
+    let number = h .number .0 in
+    let us = fieldsPut ws i start len has number in
+    let size = fields-length ws i start len has number in
+    let kept : (j : ℕ) → (j ≡ fieldAt i spanField → ⊥) → getD (set us (fieldAt i spanField) (h .span)) j 0 ≡ getD us j 0 =
+    λ j ne. getD-set-other us (fieldAt i spanField) j (h .span) 0 ne in
+    let low = kept (fieldAt i lowField) (λ q. omega arith) in
+    let high = kept (fieldAt i highField) (λ q. omega arith) in
     rw e
     (record {
-      size = length-sets ws first (wordsOf h);
-      start = at 0 first (omega arith) (omega arith);
-      len = at 1 (fieldAt i lenField) (omega arith) (omega arith);
-      has = at 2 (fieldAt i hasField) (omega arith) (omega arith);
-      number = at 3 (fieldAt i numberField) (omega arith) (omega arith);
-      span = at 4 (fieldAt i spanField) (omega arith) (omega arith);
-      low = λ j l. sets-low ws first (wordsOf h) j l;
-      high = λ j l. sets-high ws first (wordsOf h) j (omega arith);
+      size = length-set us (fieldAt i spanField) (h .span) ∙ size;
+      start = kept (fieldAt i startField) (λ q. omega arith) ∙ fields-start ws i start len has number room;
+      len = kept (fieldAt i lenField) (λ q. omega arith) ∙ fields-len ws i start len has number room;
+      has = kept (fieldAt i hasField) (λ q. omega arith) ∙ fields-has ws i start len has number room;
+      number = rw (low, high) (fields-number ws i start len has number room);
+      span = getD-set-same us (fieldAt i spanField) (h .span) 0 (omega arith);
+      low = λ j l. kept j (λ q. omega arith) ∙ fields-low ws i start len has number j l;
+      high = λ j l. kept j (λ q. omega arith) ∙ fields-high ws i start len has number j l;
     })
+
+-- They are set one after another.
+pub words-set : (ws us vs : List ℕ) (i : ℕ) (h : Head) → us ≡ fieldsPut ws i (h .start) (h .len) (h .has) (h .number .0)
+    → vs ≡ set us (fieldAt i spanField) (h .span) → vs ≡ wordsPut ws i h
+unfolding wordsPut
+words-set ws us vs i h a b = rw (b, a)
 
 -- a label in the place of as many bytes
 pub label-put : (bs ys l : List ℕ) (i : ℕ) → RoomIn bs i → length l ≤ 255 → ys ≡ l
@@ -62,7 +63,7 @@ rec-same ws bs vs cs k w b =
     let start : startOf vs k ≡ startOf ws k = w (fieldAt k startField) (omega arith) (omega arith) in
     let len : lenOf vs k ≡ lenOf ws k = w (fieldAt k lenField) (omega arith) (omega arith) in
     let has : hasOf vs k ≡ hasOf ws k = w (fieldAt k hasField) (omega arith) (omega arith) in
-    let number : numberOf vs k ≡ numberOf ws k = w (fieldAt k numberField) (omega arith) (omega arith) in
+    let number : numberOf vs k ≡ numberOf ws k = number-same vs ws k k (λ o l _. w (fieldAt k o) (omega arith) (omega arith)) in
     let span : spanOf vs k ≡ spanOf ws k = w (fieldAt k spanField) (omega arith) (omega arith) in
     λ i. record { start = start i; len = len i; has = has i; num = numOf (has i) (number i); span = span i; label = take (len i) (b i) }
 

@@ -2,7 +2,7 @@
 use mathlib.Core.Path.{_≡_, refl, ap, _∙_}
 use mathlib.Core.List.{List, [], _∷_, _++_}
 use mathlib.Core.Option.{none, some}
-use Prim.Native.Nat.{ℕ, zero, suc, _+_, _*_, _-_, _≤_, _<_}
+use Prim.Native.Nat.{ℕ, zero, suc, _+_, _*_, _-_, _/_, _%_, _≤_, _<_}
 use native.Mathlib.Omega.{arith}
 use lib.ListN.{length, getD, set, take, drop, length-set, length-take, length-drop, length-append, List·getD-append}
 use lib.Seq.{sets, length-sets, getD-set-same, getD-set-other, getD-take, getD-drop, getD-append-add, ext-getD, take-take, length-take-le}
@@ -10,9 +10,9 @@ use Rattle.tree.specs.Map.{Num}
 use Rattle.tree.specs.Tree.{keysW}
 use borrow.Rule.Slice.PartMut.{putMid, post-is}
 use Rattle.label.proofs.Moves.{by-lt}
-use Rattle.slots.specs.Layout.{labelRoom, bytesFor, WordsIn, RoomIn, fieldAt, startField, lenField, hasField, numberField, spanField, startOf, lenOf, hasOf, numberOf, spanOf, labelOf, numOf}
+use Rattle.slots.specs.Layout.{usedWords, labelRoom, wordRange, bytesFor, WordsIn, RoomIn, fieldAt, startField, lenField, hasField, lowField, spanField, highField, startOf, lenOf, hasOf, numberOf, spanOf, labelOf, numOf}
 use Rattle.slots.specs.Records.{Rec, recAt}
-use Rattle.slots.specs.Bare.{bareAt, numberWord, headPut, bareOf, Filled}
+use Rattle.slots.specs.Bare.{bareAt, numberWord, numberPut, fieldsPut, headPut, bareOf, Filled}
 
 -- m places of a list from place a on
 abbrev pub block : List ℕ → ℕ → ℕ → List ℕ
@@ -27,20 +27,29 @@ block-eq vs ws b a m hv hw same =
     let h : j < m = omega (arith, l, length-take m (drop b vs)) in
     simp (getD-take m (drop b vs) j 0 h, getD-take m (drop a ws) j 0 h, getD-drop) (same j h))
 
+-- the words of slot j are those of slot i, but for the span
+abbrev pub SameWords : (vs ws : List ℕ) (j i : ℕ) → Type 0
+SameWords vs ws j i = (o : ℕ) → o < usedWords → (o ≡ spanField → ⊥) → getD vs (fieldAt j o) 0 ≡ getD ws (fieldAt i o) 0
+
+pub number-same : (vs ws : List ℕ) (j i : ℕ) → SameWords vs ws j i → numberOf vs j ≡ numberOf ws i
+number-same vs ws j i w =
+    let low = w lowField (omega arith) (λ e. omega arith) in
+    let high = w highField (omega arith) (λ e. omega arith) in
+    rw (low, high)
+
 -- the words of a slot agree, and the bytes of its label: it says the same
-pub bare-by : (vs cs ws bs : List ℕ) (j i : ℕ) → ((o : ℕ) → o < 4 → getD vs (fieldAt j o) 0 ≡ getD ws (fieldAt i o) 0)
-    → take (lenOf ws i) (block cs (bytesFor j) labelRoom) ≡ labelOf ws bs i → bareAt vs cs j ≡ bareAt ws bs i
+pub bare-by : (vs cs ws bs : List ℕ) (j i : ℕ) → SameWords vs ws j i → take (lenOf ws i) (block cs (bytesFor j) labelRoom) ≡ labelOf ws bs i
+    → bareAt vs cs j ≡ bareAt ws bs i
 unfolding bareAt
 bare-by vs cs ws bs j i w b =
-    let w₀ : startOf vs j ≡ startOf ws i = w 0 (omega arith) in
-    let w₁ : lenOf vs j ≡ lenOf ws i = w 1 (omega arith) in
-    let w₂ : hasOf vs j ≡ hasOf ws i = w 2 (omega arith) in
-    let w₃ : numberOf vs j ≡ numberOf ws i = w 3 (omega arith) in
-    rw (w₀, w₁, w₂, w₃, b)
+    let w₀ : startOf vs j ≡ startOf ws i = w startField (omega arith) (λ e. omega arith) in
+    let w₁ : lenOf vs j ≡ lenOf ws i = w lenField (omega arith) (λ e. omega arith) in
+    let w₂ : hasOf vs j ≡ hasOf ws i = w hasField (omega arith) (λ e. omega arith) in
+    rw (w₀, w₁, w₂, number-same vs ws j i w, b)
 
--- the same where all of its 255 bytes agree
-pub bare-eq : (vs cs ws bs : List ℕ) (j i : ℕ) → ((o : ℕ) → o < 4 → getD vs (fieldAt j o) 0 ≡ getD ws (fieldAt i o) 0)
-    → block cs (bytesFor j) labelRoom ≡ block bs (bytesFor i) labelRoom → bareAt vs cs j ≡ bareAt ws bs i
+-- the same where all of its room agrees
+pub bare-eq : (vs cs ws bs : List ℕ) (j i : ℕ) → SameWords vs ws j i → block cs (bytesFor j) labelRoom ≡ block bs (bytesFor i) labelRoom
+    → bareAt vs cs j ≡ bareAt ws bs i
 bare-eq vs cs ws bs j i w b = bare-by vs cs ws bs j i w (ap (take (lenOf ws i)) b)
 
 -- what a record says, but for its span
@@ -67,23 +76,79 @@ sets-mid l i (v ∷ vs) zero k r h e =
     rw q (sets-low (set l i v) (suc i) vs i (omega arith) ∙ getD-set-same l i v 0 (omega arith))
 sets-mid l i (v ∷ vs) (suc j) k r h e = sets-mid (set l i v) (suc i) vs j k (rw length-set (omega arith)) (omega arith) (omega arith)
 
--- The words but for the span, set one after another
-pub head-set : (ws ws₁ ws₂ ws₃ vs : List ℕ) (i start len has number : ℕ) (w : Num) → ws₁ ≡ set ws (fieldAt i startField) start
-    → ws₂ ≡ set ws₁ (fieldAt i lenField) len → ws₃ ≡ set ws₂ (fieldAt i hasField) has → vs ≡ set ws₃ (fieldAt i numberField) number
-    → has ≡ keysW w → number ≡ numberWord w → vs ≡ headPut ws i start len w
-unfolding headPut
-head-set ws ws₁ ws₂ ws₃ vs i start len has number w a b c d eh en =
+-- The words of a slot but for the span, put: what stands where then
+module _ (ws : List ℕ) (i start len has number : ℕ) where
+  abbrev front : List ℕ
+  front = start ∷ len ∷ has ∷ []
+
+  abbrev fronted : List ℕ
+  fronted = sets ws (fieldAt i startField) front
+
+  pub fields-length : length (fieldsPut ws i start len has number) ≡ length ws
+  unfolding fieldsPut numberPut
+  fields-length = simp length-set
+
+  -- the number is in two words
+  apart : (j : ℕ) → (j ≡ fieldAt i lowField → ⊥) → (j ≡ fieldAt i highField → ⊥) → getD (fieldsPut ws i start len has number) j 0 ≡ getD fronted j 0
+  unfolding fieldsPut numberPut
+  apart j p q =
+      getD-set-other (set fronted (fieldAt i lowField) (number % wordRange)) (fieldAt i highField) j (number / wordRange) 0 q
+      ∙ getD-set-other fronted (fieldAt i lowField) j (number % wordRange) 0 p
+
+  pub fields-low : (j : ℕ) → j < fieldAt i startField → getD (fieldsPut ws i start len has number) j 0 ≡ getD ws j 0
+  fields-low j h = apart j (λ e. omega arith) (λ e. omega arith) ∙ sets-low ws (fieldAt i startField) front j h
+
+  pub fields-high : (j : ℕ) → fieldAt i usedWords ≤ j → getD (fieldsPut ws i start len has number) j 0 ≡ getD ws j 0
+  fields-high j h = apart j (λ e. omega arith) (λ e. omega arith) ∙ sets-high ws (fieldAt i startField) front j (omega arith)
+
+  -- no span is among them
+  pub fields-span : (k : ℕ) → spanOf (fieldsPut ws i start len has number) k ≡ spanOf ws k
+  fields-span k =
+      apart (fieldAt k spanField) (λ e. omega arith) (λ e. omega arith)
+      ∙ by-lt k i (λ m. sets-low ws (fieldAt i startField) front (fieldAt k spanField) (omega arith))
+      (λ m. sets-high ws (fieldAt i startField) front (fieldAt k spanField) (omega arith))
+
+  module _ (inW : WordsIn ws i) where
+    word : (o : ℕ) → o < 3 → getD (fieldsPut ws i start len has number) (fieldAt i o) 0 ≡ getD front o 0
+    word o h =
+        apart (fieldAt i o) (λ e. omega arith) (λ e. omega arith)
+        ∙ sets-mid ws (fieldAt i startField) front o (fieldAt i o) (omega arith) h (omega arith)
+
+    pub fields-start : startOf (fieldsPut ws i start len has number) i ≡ start
+    fields-start = word startField (omega arith)
+
+    pub fields-len : lenOf (fieldsPut ws i start len has number) i ≡ len
+    fields-len = word lenField (omega arith)
+
+    pub fields-has : hasOf (fieldsPut ws i start len has number) i ≡ has
+    fields-has = word hasField (omega arith)
+
+    pub fields-number : numberOf (fieldsPut ws i start len has number) i ≡ number
+    unfolding fieldsPut numberPut
+    fields-number =
+        let size = length-sets ws (fieldAt i startField) front in
+        let lowed = set fronted (fieldAt i lowField) (number % wordRange) in
+        let low = getD-set-other lowed (fieldAt i highField) (fieldAt i lowField) (number / wordRange) 0 (λ e. omega arith)
+        ∙ getD-set-same fronted (fieldAt i lowField) (number % wordRange) 0 (omega arith) in
+        let high = getD-set-same lowed (fieldAt i highField) (number / wordRange) 0 (simp length-set (omega arith)) in
+        rw (low, high) (omega arith)
+
+-- They are set one after another.
+pub fields-set : (ws ws₁ ws₂ ws₃ vs : List ℕ) (i start len has number : ℕ) → ws₁ ≡ set ws (fieldAt i startField) start
+    → ws₂ ≡ set ws₁ (fieldAt i lenField) len → ws₃ ≡ set ws₂ (fieldAt i hasField) has → vs ≡ numberPut ws₃ i number
+    → vs ≡ fieldsPut ws i start len has number
+unfolding fieldsPut
+fields-set ws ws₁ ws₂ ws₃ vs i start len has number a b c d =
     let e₁ : suc (fieldAt i startField) ≡ fieldAt i lenField = omega arith in
     let e₂ : suc (fieldAt i lenField) ≡ fieldAt i hasField = omega arith in
-    let e₃ : suc (fieldAt i hasField) ≡ fieldAt i numberField = omega arith in
-    rw (d, c, b, a) (simp (e₁, e₂, e₃, eh, en))
+    rw (d, c, b, a) (simp (e₁, e₂))
 
--- A head has no span.
+pub head-set : (ws vs : List ℕ) (i start len has number : ℕ) (w : Num) → vs ≡ fieldsPut ws i start len has number
+    → has ≡ keysW w → number ≡ numberWord w → vs ≡ headPut ws i start len w
+head-set ws vs i start len has number w e eh en = rw (← eh, ← en) e
+
 pub head-span : (ws : List ℕ) (at start len : ℕ) (w : Num) (i : ℕ) → spanOf (headPut ws at start len w) i ≡ spanOf ws i
-unfolding headPut
-head-span ws at start len w i =
-    let new = start ∷ len ∷ keysW w ∷ numberWord w ∷ [] in
-    by-lt i at (λ m. sets-low ws (fieldAt at startField) new (fieldAt i spanField) (omega arith)) (λ m. sets-high ws (fieldAt at startField) new (fieldAt i spanField) (omega arith))
+head-span ws at start len w = fields-span ws at start len (keysW w) (numberWord w)
 
 pub head-kept : (ws vs : List ℕ) (at start len : ℕ) (w : Num) → vs ≡ headPut ws at start len w → spanOf vs at ≡ spanOf ws at
 head-kept ws vs at start len w e = ap (λ (z : List ℕ). spanOf z at) e ∙ head-span ws at start len w at
@@ -153,46 +218,44 @@ num-read none = refl
 num-read (some v) = refl
 
 -- A head and a label put fill a slot.
-module _ (ws bs : List ℕ) (at start : ℕ) (l : List ℕ) (w : Num) (inW : WordsIn ws at) (inB : RoomIn bs at) (short : length l ≤ 255) where
-  abbrev new : List ℕ
-  new = start ∷ length l ∷ keysW w ∷ numberWord w ∷ []
+module _ (ws bs : List ℕ) (at start : ℕ) (l : List ℕ) (w : Num) (inW : WordsIn ws at) (inB : RoomIn bs at) (short : length l ≤ labelRoom) where
+  abbrev vs : List ℕ
+  vs = headPut ws at start (length l) w
 
-  word : (o k : ℕ) → o < 4 → k ≡ fieldAt at o → getD (headPut ws at start (length l) w) k 0 ≡ getD new o 0
-  unfolding headPut
-  word o k h e = sets-mid ws (fieldAt at startField) new o k (omega arith) h (omega arith)
-
-  filled-slot : bareAt (headPut ws at start (length l) w) (labelPut bs at l) at ≡ bareOf start l w
+  filled-slot : bareAt vs (labelPut bs at l) at ≡ bareOf start l w
   unfolding bareAt
   filled-slot =
-      let us = headPut ws at start (length l) w in
-      let w₀ : startOf us at ≡ start = word 0 (fieldAt at startField) (omega arith) (omega arith) in
-      let w₁ : lenOf us at ≡ length l = word 1 (fieldAt at lenField) (omega arith) (omega arith) in
-      let w₂ : hasOf us at ≡ keysW w = word 2 (fieldAt at hasField) (omega arith) (omega arith) in
-      let w₃ : numberOf us at ≡ numberWord w = word 3 (fieldAt at numberField) (omega arith) (omega arith) in
+      let has = keysW w in
+      let number = numberWord w in
+      let w₀ = fields-start ws at start (length l) has number inW in
+      let w₁ = fields-len ws at start (length l) has number inW in
+      let w₂ = fields-has ws at start (length l) has number inW in
+      let w₃ = fields-number ws at start (length l) has number inW in
       rw (w₀, w₁, w₂, w₃, num-read w, put-label-is bs at l (omega arith) short inB)
 
-  pub filled : Filled ws bs (headPut ws at start (length l) w) (labelPut bs at l) at (bareOf start l w)
-  unfolding headPut
+  -- slots before and behind
+  other-words : (i : ℕ) → (i ≡ at → ⊥) → SameWords vs ws i i
+  other-words i ne o h _ =
+      by-lt i at (λ m. fields-low ws at start (length l) (keysW w) (numberWord w) (fieldAt i o) (omega arith))
+      (λ m. fields-high ws at start (length l) (keysW w) (numberWord w) (fieldAt i o) (by-lt at i (λ k. omega arith) (λ k. absurd (ne (omega arith)))))
+
+  past : (i j : ℕ) → (i ≡ at → ⊥) → at ≤ i → bytesFor at + length l ≤ bytesFor i + j
+  past i j ne m = by-lt at i (λ h. omega arith) (λ h. absurd (ne (omega arith)))
+
+  pub filled : Filled ws bs vs (labelPut bs at l) at (bareOf start l w)
   filled =
       let lb = put-length bs at l (omega arith) in
       record {
-        lenW = length-sets ws (fieldAt at startField) new;
+        lenW = fields-length ws at start (length l) (keysW w) (numberWord w);
         lenB = lb;
-        head = λ j h. sets-low ws (fieldAt at startField) new j (omega arith);
+        head = λ j h. fields-low ws at start (length l) (keysW w) (numberWord w) j (omega arith);
         slot = filled-slot;
         others = λ i ne r.
-            bare-eq (headPut ws at start (length l) w) (labelPut bs at l) ws bs i i
-            (λ o h. by-lt i at (λ m. sets-low ws (fieldAt at startField) new (fieldAt i o) (omega arith)) (λ m. sets-high ws (fieldAt at startField) new (fieldAt i o) (other i o ne m)))
-            (block-eq (labelPut bs at l) bs (bytesFor i) (bytesFor i) 255 (omega (arith, lb)) r
+            bare-eq vs (labelPut bs at l) ws bs i i (other-words i ne)
+            (block-eq (labelPut bs at l) bs (bytesFor i) (bytesFor i) labelRoom (omega (arith, lb)) r
             (λ j h. by-lt i at (λ m. put-low bs at l (omega arith) (bytesFor i + j) (omega arith)) (λ m. put-high bs at l (omega arith) (bytesFor i + j) (past i j ne m))));
         spans = λ i ne. head-span ws at start (length l) w i;
       }
-    where
-      other : (i o : ℕ) → (i ≡ at → ⊥) → at ≤ i → fieldAt at startField + 4 ≤ fieldAt i o
-      other i o ne m = by-lt at i (λ h. omega arith) (λ h. absurd (ne (omega arith)))
-
-      past : (i j : ℕ) → (i ≡ at → ⊥) → at ≤ i → bytesFor at + length l ≤ bytesFor i + j
-      past i j ne m = by-lt at i (λ h. omega arith) (λ h. absurd (ne (omega arith)))
 
 -- as the code leaves them
 pub filled-by : (ws bs vs cs : List ℕ) (at start : ℕ) (l : List ℕ) (w : Num) → WordsIn ws at → RoomIn bs at → length l ≤ 255

@@ -3,13 +3,13 @@
 use mathlib.Core.Path.{_≡_}
 use mathlib.Core.List.{List, [], _∷_, _++_}
 use mathlib.Core.Option.{none, some}
-use Prim.Native.Nat.{ℕ, suc, _+_, _<_}
-use lib.ListN.{length, getD, take, drop}
+use Prim.Native.Nat.{ℕ, suc, _+_, _/_, _%_}
+use lib.ListN.{length, set, take, drop}
 use lib.Seq.{sets}
 use Rattle.tree.specs.Key.{Key}
 use Rattle.tree.specs.Map.{Num}
 use Rattle.tree.specs.Tree.{Forest, nil, node, Tree, keysW}
-use Rattle.slots.specs.Layout.{SameHead, RoomIn, fieldAt, startField, startOf, lenOf, hasOf, spanOf, labelOf, numAt}
+use Rattle.slots.specs.Layout.{SameHead, RoomIn, wordRange, fieldAt, startField, lowField, highField, startOf, lenOf, hasOf, spanOf, labelOf, numAt}
 use Rattle.slots.specs.Records.{run}
 use Rattle.slots.specs.declared.put.Head.{Head}
 use Rattle.slots.specs.declared.put.Stored.{Stored}
@@ -50,9 +50,16 @@ abbrev pub numberWord : Num → ℕ
 numberWord none = 0
 numberWord (some v) = v
 
+-- A slot's number, in its two words
+unfoldable pub numberPut : (ws : List ℕ) (i number : ℕ) → List ℕ
+numberPut ws i number = set (set ws (fieldAt i lowField) (number % wordRange)) (fieldAt i highField) (number / wordRange)
+
 -- A slot's words but for its span
-unfoldable pub headPut : (ws : List ℕ) (i start len : ℕ) → Num → List ℕ
-headPut ws i start len w = sets ws (fieldAt i startField) (start ∷ len ∷ keysW w ∷ numberWord w ∷ [])
+unfoldable pub fieldsPut : (ws : List ℕ) (i start len has number : ℕ) → List ℕ
+fieldsPut ws i start len has number = numberPut (sets ws (fieldAt i startField) (start ∷ len ∷ has ∷ [])) i number
+
+abbrev pub headPut : (ws : List ℕ) (i start len : ℕ) → Num → List ℕ
+headPut ws i start len w = fieldsPut ws i start len (keysW w) (numberWord w)
 
 -- A slot's words with its span
 pub record HeadOf (h : Head) (start len : ℕ) (w : Num) (span : ℕ) : Type 0 where

@@ -12,10 +12,10 @@ abbrev pub headWords : ℕ
 headWords = 8
 
 abbrev pub slotWords : ℕ
-slotWords = 6
+slotWords = 8
 
 abbrev pub usedWords : ℕ
-usedWords = 5
+usedWords = 6
 
 abbrev pub labelRoom : ℕ
 labelRoom = 255
@@ -52,11 +52,14 @@ lenField = 1
 abbrev pub hasField : ℕ
 hasField = 2
 
-abbrev pub numberField : ℕ
-numberField = 3
+abbrev pub lowField : ℕ
+lowField = 3
 
 abbrev pub spanField : ℕ
 spanField = 4
+
+abbrev pub highField : ℕ
+highField = 5
 
 -- The head's words are as they were.
 abbrev pub SameHead : (ws vs : List ℕ) → Type 0
@@ -81,9 +84,12 @@ lenOf ws i = getD ws (fieldAt i lenField) 0
 abbrev pub hasOf : List ℕ → ℕ → ℕ
 hasOf ws i = getD ws (fieldAt i hasField) 0
 
--- The number, if it has one
+-- The number, if it has one: its low word, and its high word
+abbrev pub wordRange : ℕ
+wordRange = 4294967296
+
 abbrev pub numberOf : List ℕ → ℕ → ℕ
-numberOf ws i = getD ws (fieldAt i numberField) 0
+numberOf ws i = getD ws (fieldAt i lowField) 0 + wordRange * getD ws (fieldAt i highField) 0
 
 -- Nodes of the slot's subtree, itself included: the link past it
 abbrev pub spanOf : List ℕ → ℕ → ℕ

@@ -1,19 +1,16 @@
 -- What writing one slot leaves in the two lent lists: ws and bs before, vs and cs after.
 use mathlib.Core.Path.{_≡_}
-use mathlib.Core.List.{List, [], _∷_}
+use mathlib.Core.List.{List}
 use Prim.Native.Nat.{ℕ, _+_, _≤_, _<_}
-use lib.ListN.{length, getD, take, drop}
-use lib.Seq.{sets}
+use lib.ListN.{length, getD, set, take, drop}
 use Rattle.slots.specs.declared.put.Head.{Head}
-use Rattle.slots.specs.Layout.{SameHead, labelRoom, usedWords, bytesFor, fieldAt, startField, startOf, lenOf, hasOf, numberOf, spanOf, numOf}
+use Rattle.slots.specs.Layout.{SameHead, labelRoom, usedWords, bytesFor, fieldAt, startField, spanField, startOf, lenOf, hasOf, numberOf, spanOf, numOf}
 use Rattle.slots.specs.Records.{Rec, recAt}
+use Rattle.slots.specs.Bare.{fieldsPut}
 
--- The words of a slot, one behind another
-abbrev pub wordsOf : Head → List ℕ
-wordsOf h = h .start ∷ h .len ∷ h .has ∷ h .number .0 ∷ h .span ∷ []
-
+-- The words of a slot
 unfoldable pub wordsPut : (ws : List ℕ) (i : ℕ) → Head → List ℕ
-wordsPut ws i h = sets ws (fieldAt i startField) (wordsOf h)
+wordsPut ws i h = set (fieldsPut ws i (h .start) (h .len) (h .has) (h .number .0)) (fieldAt i spanField) (h .span)
 
 -- Slot i has these words; every other word is as it was.
 pub record WordsPut (ws vs : List ℕ) (i : ℕ) (h : Head) : Type 0 where

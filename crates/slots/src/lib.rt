@@ -3,14 +3,15 @@
 ghost use mathlib.Core.Path.{_≡_};
 ghost use Prim.Native.Nat.{_+_, _≤_, _<_};
 ghost use lib.ListN.{length, set};
-ghost use Rattle.slots.specs.Layout.{slotsIn, labelRoom, WordsIn, RoomIn, fieldAt, startField, lenField, hasField, numberField, spanField, nodesWord, nodesOf, startOf, lenOf, hasOf, numberOf, spanOf, firstOf, labelOf};
+ghost use Rattle.slots.specs.Layout.{slotsIn, labelRoom, WordsIn, RoomIn, fieldAt, startField, lenField, hasField, spanField, nodesWord, nodesOf, startOf, lenOf, hasOf, numberOf, spanOf, firstOf, labelOf};
+ghost use Rattle.slots.specs.Bare.{numberPut};
 use tree::RuleNo;
 use tree::Slot;
 
 // Words of the head and of a slot, and bytes of a slot's room, in which its label stands.
 pub const HEAD_WORDS: usize = 8;
 
-pub const SLOT_WORDS: usize = 6;
+pub const SLOT_WORDS: usize = 8;
 
 pub const LABEL_ROOM: usize = 255;
 
@@ -21,15 +22,27 @@ const LEN: usize = HEAD_WORDS + 1;
 
 const HAS: usize = HEAD_WORDS + 2;
 
-const NUMBER: usize = HEAD_WORDS + 3;
+const LOW: usize = HEAD_WORDS + 3;
 
 const SPAN: usize = HEAD_WORDS + 4;
+
+const HIGH: usize = HEAD_WORDS + 5;
+
+// So many numbers one word tells apart.
+const WORD_RANGE: u64 = 4294967296;
 
 // A word as a place or a length.
 fn wide(x: u32) -> usize
     ensures { λ r. ⌜ (r ≡ x) × (r < 4294967296) ⌝ }
 {
     x as usize
+}
+
+// A word as half of a number.
+fn half(x: u32) -> u64
+    ensures { λ r. ⌜ (r ≡ x) × (r < 4294967296) ⌝ }
+{
+    x as u64
 }
 
 // How many slots so many label bytes are.
@@ -74,13 +87,15 @@ pub fn has_at(words: &[u32], at: Slot) -> usize
     wide(words[SLOT_WORDS * i + HAS])
 }
 
-// The slot's number, if it has one.
+// The slot's number, if it has one: a low word and a high one.
 pub fn number_at(words: &[u32], at: Slot) -> RuleNo
     requires { ⌜ WordsIn (now words) (at .0) ⌝ }
     ensures { λ r. ⌜ r .0 ≡ numberOf (now (words .entry)) (at .0) ⌝ }
 {
     let i = at.0;
-    RuleNo(words[SLOT_WORDS * i + NUMBER])
+    let low = half(words[SLOT_WORDS * i + LOW]);
+    let high = half(words[SLOT_WORDS * i + HIGH]);
+    RuleNo(low + WORD_RANGE * high)
 }
 
 // Nodes of the slot's subtree, itself included.
@@ -145,10 +160,11 @@ pub fn set_has(words: &mut [u32], at: Slot, has: u32)
 
 pub fn set_number(words: &mut [u32], at: Slot, number: RuleNo)
     requires { ⌜ WordsIn (now words) (at .0) ⌝ }
-    ensures { λ _. ⌜ now (words .exit) ≡ set (now (words .entry)) (fieldAt (at .0) numberField) (number .0) ⌝ }
+    ensures { λ _. ⌜ now (words .exit) ≡ numberPut (now (words .entry)) (at .0) (number .0) ⌝ }
 {
     let i = at.0;
-    words[SLOT_WORDS * i + NUMBER] = number.0;
+    words[SLOT_WORDS * i + LOW] = (number.0 % WORD_RANGE) as u32;
+    words[SLOT_WORDS * i + HIGH] = (number.0 / WORD_RANGE) as u32;
 }
 
 pub fn set_span(words: &mut [u32], at: Slot, span: u32)

@@ -9,7 +9,7 @@ use lib.Seq.{getD-set-same, getD-set-other, getD-append-add, ext-getD}
 use Rattle.tree.specs.Map.{Num}
 use Rattle.label.specs.Runs.{MovedDown}
 use Rattle.label.proofs.Moves.{by-lt, by-eq}
-use Rattle.slots.specs.Layout.{bytesFor, WordsIn, RoomIn, fieldAt, startField, lenField, hasField, numberField, spanField, startOf, lenOf, hasOf, numberOf, spanOf, labelOf, numOf, numAt}
+use Rattle.slots.specs.Layout.{bytesFor, WordsIn, RoomIn, fieldAt, startField, lenField, hasField, lowField, spanField, highField, startOf, lenOf, hasOf, numberOf, spanOf, labelOf, numOf, numAt}
 use Rattle.slots.specs.Bare.{Bare, bareAt, headPut, bareOf, Filled}
 use Rattle.splice.specs.Altered.{gapOf, numberless, joinOf, Altered, Joinable, Emptied}
 use Rattle.slots.proofs.Slots.{at-place, labelPut, bare-eq, put-length, put-low, put-mid, put-high, filled-by, head-span}
@@ -23,7 +23,7 @@ module _ (ws bs : List ℕ) (at o v : ℕ) (low : 1 ≤ o) (high : o < 4) where
   others : (i : ℕ) → (i ≡ at → ⊥) → bareAt one bs i ≡ bareAt ws bs i
   others i ne =
       bare-eq one bs ws bs i i
-      (λ p h. getD-set-other ws (fieldAt at o) (fieldAt i p) v 0 (λ e. by-lt i at (λ l. omega arith) (λ l. by-lt at i (λ m. omega arith) (λ m. ne (omega arith)))))
+      (λ p h _. getD-set-other ws (fieldAt at o) (fieldAt i p) v 0 (λ e. by-lt i at (λ l. omega arith) (λ l. by-lt at i (λ m. omega arith) (λ m. ne (omega arith)))))
       refl
 
   written : (x : Bare) → bareAt one bs at ≡ x → Altered ws bs one bs at x
@@ -53,8 +53,9 @@ gap-opened ws vs bs at h e =
     let w₀ : startOf us at ≡ startOf ws at = same startField (λ q. omega arith) in
     let w₁ : lenOf us at ≡ 0 = getD-set-same ws (fieldAt at lenField) 0 0 (omega arith) in
     let w₂ : hasOf us at ≡ hasOf ws at = same hasField (λ q. omega arith) in
-    let w₃ : numberOf us at ≡ numberOf ws at = same numberField (λ q. omega arith) in
-    rw e (written ws bs at lenField 0 (omega arith) (omega arith) (gapOf (bareAt ws bs at)) (rw (w₀, w₁, w₂, w₃) refl))
+    let low = same lowField (λ q. omega arith) in
+    let high = same highField (λ q. omega arith) in
+    rw e (written ws bs at lenField 0 (omega arith) (omega arith) (gapOf (bareAt ws bs at)) (rw (w₀, w₁, w₂, low, high) refl))
 
 pub number-dropped : (ws vs bs : List ℕ) (at : ℕ) → WordsIn ws at → vs ≡ set ws (fieldAt at hasField) 0
     → Altered ws bs vs bs at (numberless (bareAt ws bs at))

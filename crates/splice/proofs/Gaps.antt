@@ -69,19 +69,19 @@ slot-lowered ws bs vs cs i to k n h e rw′ rb v s t =
       head = λ j l. s .low j (omega arith);
       slot =
           bare-by vs cs ws bs to i
-          (λ o l. s .mid (fieldAt to o) (omega arith) (omega arith) ∙ at-place ws (omega arith))
+          (λ o l _. s .mid (fieldAt to o) (omega arith) (omega arith) ∙ at-place ws (omega arith))
           (label-by (lenOf ws i) n (drop (bytesFor to) cs) (drop (bytesFor i) bs) v
           (block-eq cs bs (bytesFor to) (bytesFor i) n (omega (arith, v .most)) (omega (arith, v .most)) (λ j l. t .mid (bytesFor to + j) (omega arith) (omega arith) ∙ at-place bs (omega arith))));
       others = λ x ne r.
           by-lt x to
           (λ l.
           bare-eq vs cs ws bs x x
-          (λ o m. s .low (fieldAt x o) (omega arith))
+          (λ o m _. s .low (fieldAt x o) (omega arith))
           (block-eq cs bs (bytesFor x) (bytesFor x) labelRoom (omega arith) r (λ j m. t .low (bytesFor x + j) (omega arith))))
           (λ l.
           let g : to < x = by-lt to x (λ m. m) (λ m. absurd (ne (omega arith))) in
           bare-eq vs cs ws bs x x
-          (λ o m. s .high (fieldAt x o) (omega arith))
+          (λ o m _. s .high (fieldAt x o) (omega arith))
           (block-eq cs bs (bytesFor x) (bytesFor x) labelRoom (omega arith) r (λ j m. t .high (bytesFor x + j) (omega (arith, v .most)))));
       spans = λ x ne.
           by-lt x to (λ l. s .low (fieldAt x spanField) (omega arith))

@@ -30,7 +30,7 @@ fn length(n: usize) {
 
 // A stored number behind what stands in the line.
 fn rule(v: RuleNo) {
-    print::value(v.0 as u64);
+    print::value(v.0);
 }
 
 // How many nodes a search looked at ends the line, behind a stroke.
@@ -121,7 +121,7 @@ pub fn loaded(answer: Loaded) {
 }
 
 // The image stands at the front of the two outputs.
-pub fn written(answer: Written, tree: &[u8], numbers: &[u32]) {
+pub fn written(answer: Written, tree: &[u8], numbers: &[u64]) {
     number(answer.number());
     if let Written::Lengths(n, k) = answer {
         if n <= tree.len() {
@@ -166,6 +166,6 @@ pub fn walked(answer: Stepped, out: &[u8]) {
         print::hex(&out[0..n]);
     }
     print::text(b"=");
-    print::number(v.0 as u64);
+    print::number(v.0);
     print::text(b" ");
 }

@@ -18,8 +18,8 @@ pub struct Slot(pub usize);
 // How far a node is below the root, which is at level 0.
 pub struct Level(pub usize);
 
-// A stored number: any 32-bit value.
-pub struct RuleNo(pub u32);
+// A stored number: any 64-bit value.
+pub struct RuleNo(pub u64);
 
 // How many nodes a search looked at.
 pub struct Looked(pub usize);

@@ -113,7 +113,7 @@ fn write_tree(labels: &[u8], words: &[u32], out: &mut [u8])
 
 // Writes the number of one slot, if it has one, and gives the place behind it. Counterpart: what `Node::serialize` pushes
 // to its values for one node.
-fn write_number(words: &[u32], slot: Slot, out: &mut [u32], at: usize) -> usize
+fn write_number(words: &[u32], slot: Slot, out: &mut [u64], at: usize) -> usize
     requires { ⌜ WordsIn (now words) (slot .0) × (at + length (numbersW (numAt (now words) (slot .0)) []) ≤ length (now out)) ⌝ }
     ensures { λ r. ⌜ Put (numbersW (numAt (now (words .entry)) (slot .0)) []) (now (out .entry)) at (now (out .exit)) r ⌝ }
 {
@@ -125,7 +125,7 @@ fn write_number(words: &[u32], slot: Slot, out: &mut [u32], at: usize) -> usize
 }
 
 // Writes the numbers of n slots to the front of the output.
-fn write_numbers(words: &[u32], n: usize, out: &mut [u32])
+fn write_numbers(words: &[u32], n: usize, out: &mut [u64])
     requires { ⌜ (wordsFor n ≤ length (now words)) × (length (numbersIn (now words) n) ≤ length (now out)) ⌝ }
     ensures { λ _. ⌜ now (out .exit) ≡ sets (now (out .entry)) 0 (numbersIn (now (words .entry)) n) ⌝ }
 {
@@ -139,7 +139,7 @@ fn write_numbers(words: &[u32], n: usize, out: &mut [u32])
 
 // Writes the image of the pool's tree: each output has its part at the front, and with any refusal both stay as they
 // were. Both lengths are known and tested before anything is written. Counterpart: `Node::serialize`.
-pub fn write(labels: &[u8], words: &[u32], tree: &mut [u8], numbers: &mut [u32]) -> Written
+pub fn write(labels: &[u8], words: &[u32], tree: &mut [u8], numbers: &mut [u64]) -> Written
     ensures { λ r. do
       let was = before labels words
       ⌜ WriteAllows r was (now (tree .entry)) (now (numbers .entry)) (now (tree .exit)) (now (numbers .exit)) ⌝ }

@@ -36,6 +36,6 @@ returns-3 c = valuing-done _ _ _ (omega arith) (c .before .loop .inv)
 pub digits-spec : {M : Type 1} → statement M
 digits-spec =
     tie.close
-    (tie.spec Inv-loop μ-loop (λ c. valuing-none _) (λ c. omega arith) (λ c κs. omega arith) returns
-    (λ c. omega arith) (λ c. omega arith) (λ c. omega arith) returns-2
-    (λ c. omega arith) (λ c. omega arith) loop-again (λ c. omega arith) returns-3)
+    (tie.spec Inv-loop μ-loop (λ c. valuing-none _) (λ c. omega arith) (λ c κs. omega arith) (λ c. omega arith) returns
+    (λ c. omega arith) returns-2
+    (λ c. omega arith) (λ c. omega arith) (λ c. omega arith) (λ c. omega arith) loop-again returns-3)
