@@ -4,6 +4,7 @@ ghost use lib.ListN.{take, drop};
 ghost use Rattle.command.specs.Front.{VerbOf, NamedOf, CommandOf, CommentOf, HeardOf};
 use line::Numeral;
 use line::Taken;
+use tree::KEY_MAX;
 use tree::RuleNo;
 
 // What a command asks for.
@@ -265,7 +266,7 @@ fn with_pool(pool: Named, key: usize, word: &[u8]) -> Words {
 
 // A step's output has at most 4,096 bytes. Its last key is spelt by a word, `.` if none was given.
 fn with_last(key: usize, word: &[u8], count: usize, room: &mut [u8]) -> Words {
-    if count > 4096 {
+    if count > KEY_MAX {
         return bad();
     }
     if check::same(word, b".") {

@@ -216,7 +216,8 @@ pub extern "C" fn yarnhollow_write(
       let t = treeIn (before labels words)
       let results = now («tree_length» .entry) ∷ now («numbers_length» .entry) ∷ []
       let results′ = now («tree_length» .exit) ∷ now («numbers_length» .exit) ∷ []
-      ⌜ Written t r results results′ (now (tree .entry)) (now (numbers .entry)) (now (tree .exit)) (now (numbers .exit)) ⌝ }
+      let s = now (tree .entry)
+      ⌜ Written t r results results′ s (now (numbers .entry)) (now (tree .exit)) (now (numbers .exit)) ⌝ }
 {
     let answer = writer::write(labels, words, tree, numbers);
     results::store_written(answer, tree_length, numbers_length);

@@ -25,6 +25,8 @@ use search::Descent;
 use search::Stop;
 use slots::put::Stored;
 use tree::Inserted;
+use tree::KEY_MAX;
+use tree::LABEL_MAX;
 use tree::Looked;
 use tree::RuleNo;
 use tree::Slot;
@@ -34,7 +36,7 @@ fn chain_nodes(len: usize) -> usize
     requires { ⌜ 1 ≤ len ⌝ }
     ensures { λ r. ⌜ r ≡ leafNodes len ⌝ }
 {
-    (len - 1) / 255 + 1
+    (len - 1) / LABEL_MAX + 1
 }
 
 // How many slots a key of `len` bytes takes where its search has ended: none to set a number.
@@ -57,10 +59,17 @@ fn new_nodes(stop: Stop, above: usize, len: usize) -> usize
 // Fills the slots from `at` on with a new leaf: a label over 255 bytes becomes 255 bytes without a number, over the rest
 // treated again in that way. Counterpart: `new`.
 fn chain(labels: &mut [u8], words: &mut [u32], at: Slot, start: usize, rest: &[u8], number: RuleNo)
-    requires { ⌜ Within (now words) (now labels) (at .0 + leafNodes (length (now rest))) × (1 ≤ length (now rest)) × (start + length (now rest) ≤ 4096) ⌝ }
-    ensures { λ _. ⌜ Built (now (words .entry)) (now (labels .entry)) (now (words .exit)) (now (labels .exit)) (at .0) (leafBares start (now (rest .entry)) (number .0)) ⌝ }
+    requires { do
+      let l = now rest
+      ⌜ Within (now words) (now labels) (at .0 + leafNodes (length l)) × (1 ≤ length l) × (start + length l ≤ 4096) ⌝ }
+    ensures { λ _. do
+      let ws = now (words .entry)
+      let bs = now (labels .entry)
+      let vs = now (words .exit)
+      let cs = now (labels .exit)
+      ⌜ Built ws bs vs cs (at .0) (leafBares start (now (rest .entry)) (number .0)) ⌝ }
 {
-    if rest.len() <= 255 {
+    if rest.len() <= LABEL_MAX {
         slots::put::put_linked(labels, words, at, start, rest, Stored::Number(number), 1);
         return;
     }
@@ -70,12 +79,19 @@ fn chain(labels: &mut [u8], words: &mut [u32], at: Slot, start: usize, rest: &[u
         words,
         at,
         start,
-        &rest[0..255],
+        &rest[0..LABEL_MAX],
         Stored::Nothing,
         span,
     );
     let next = at.0 + 1;
-    chain(labels, words, Slot(next), start + 255, &rest[255..], number);
+    chain(
+        labels,
+        words,
+        Slot(next),
+        start + LABEL_MAX,
+        &rest[LABEL_MAX..],
+        number,
+    );
 }
 
 // Cuts the label of the slot behind m bytes, with a new leaf before the lower part. Of the n slots in use those behind move
@@ -90,8 +106,19 @@ fn fork_before(
     rest: &[u8],
     number: RuleNo,
 )
-    requires { ⌜ Grows (now words) (now labels) n k × Forks (now words) (at .0) m (now rest) × (k ≡ 1 + leafNodes (length (now rest))) × PoolRule (now words) (now labels) ⌝ }
-    ensures { λ _. ⌜ Replaced (now (words .entry)) (now (labels .entry)) (now (words .exit)) (now (labels .exit)) (at .0) 1 (forkBares (now (words .entry)) (now (labels .entry)) (at .0) m (now (rest .entry)) (number .0) true) × Loose (now (words .exit)) (n + k) (at .0 + 1) k 0 ⌝ }
+    requires { do
+      let ws = now words
+      let bs = now labels
+      ⌜ Grows ws bs n k × Forks ws (at .0) m (now rest) × (k ≡ 1 + leafNodes (length (now rest))) × PoolRule ws bs ⌝ }
+    ensures { λ _. do
+      let ws = now (words .entry)
+      let bs = now (labels .entry)
+      let vs = now (words .exit)
+      let cs = now (labels .exit)
+      let i = at .0
+      let l = now (rest .entry)
+      let new = forkBares ws bs i m l (number .0) true
+      ⌜ Replaced ws bs vs cs i 1 new × Loose vs (n + k) (i + 1) k 0 ⌝ }
 {
     let start = slots::start_at(words, at) + m;
     let next = at.0 + 1;
@@ -113,8 +140,19 @@ fn fork_behind(
     rest: &[u8],
     number: RuleNo,
 )
-    requires { ⌜ Grows (now words) (now labels) n k × Forks (now words) (at .0) m (now rest) × (k ≡ 1 + leafNodes (length (now rest))) × PoolRule (now words) (now labels) ⌝ }
-    ensures { λ _. ⌜ Replaced (now (words .entry)) (now (labels .entry)) (now (words .exit)) (now (labels .exit)) (at .0) (spanOf (now (words .entry)) (at .0)) (forkBares (now (words .entry)) (now (labels .entry)) (at .0) m (now (rest .entry)) (number .0) false) × Loose (now (words .exit)) (n + k) (at .0 + 1) k 0 ⌝ }
+    requires { do
+      let ws = now words
+      let bs = now labels
+      ⌜ Grows ws bs n k × Forks ws (at .0) m (now rest) × (k ≡ 1 + leafNodes (length (now rest))) × PoolRule ws bs ⌝ }
+    ensures { λ _. do
+      let ws = now (words .entry)
+      let bs = now (labels .entry)
+      let vs = now (words .exit)
+      let cs = now (labels .exit)
+      let i = at .0
+      let l = now (rest .entry)
+      let new = forkBares ws bs i m l (number .0) false
+      ⌜ Replaced ws bs vs cs i (spanOf ws i) new × Loose vs (n + k) (i + 1) k 0 ⌝ }
 {
     let start = slots::start_at(words, at) + m;
     let lower = at.0 + 1;
@@ -128,7 +166,10 @@ fn fork_behind(
 
 // Whether the first byte of `rest` is below the byte of the slot's label behind its first m.
 fn byte_below(labels: &[u8], words: &[u32], at: Slot, m: usize, rest: &[u8]) -> bool
-    requires { ⌜ Within (now words) (now labels) (at .0 + 1) × (m < lenOf (now words) (at .0)) × (lenOf (now words) (at .0) ≤ 255) × (1 ≤ length (now rest)) ⌝ }
+    requires { do
+      let ws = now words
+      let i = at .0
+      ⌜ Within ws (now labels) (i + 1) × (m < lenOf ws i) × (lenOf ws i ≤ 255) × (1 ≤ length (now rest)) ⌝ }
     ensures { λ r. ⌜ r ≡ forkSide (now (words .entry)) (now (labels .entry)) (at .0) m (now (rest .entry)) ⌝ }
 {
     let label = slots::label_at(labels, words, at);
@@ -148,8 +189,20 @@ fn fork_label(
     rest: &[u8],
     number: RuleNo,
 )
-    requires { ⌜ Grows (now words) (now labels) n k × Forks (now words) (at .0) m (now rest) × (k ≡ 1 + leafNodes (length (now rest))) × PoolRule (now words) (now labels) ⌝ }
-    ensures { λ _. ⌜ Replaced (now (words .entry)) (now (labels .entry)) (now (words .exit)) (now (labels .exit)) (at .0) (forkWas (now (words .entry)) (at .0) (forkSide (now (words .entry)) (now (labels .entry)) (at .0) m (now (rest .entry)))) (forkBares (now (words .entry)) (now (labels .entry)) (at .0) m (now (rest .entry)) (number .0) (forkSide (now (words .entry)) (now (labels .entry)) (at .0) m (now (rest .entry)))) × Loose (now (words .exit)) (n + k) (at .0 + 1) k 0 ⌝ }
+    requires { do
+      let ws = now words
+      let bs = now labels
+      ⌜ Grows ws bs n k × Forks ws (at .0) m (now rest) × (k ≡ 1 + leafNodes (length (now rest))) × PoolRule ws bs ⌝ }
+    ensures { λ _. do
+      let ws = now (words .entry)
+      let bs = now (labels .entry)
+      let vs = now (words .exit)
+      let cs = now (labels .exit)
+      let i = at .0
+      let l = now (rest .entry)
+      let side = forkSide ws bs i m l
+      let new = forkBares ws bs i m l (number .0) side
+      ⌜ Replaced ws bs vs cs i (forkWas ws i side) new × Loose vs (n + k) (i + 1) k 0 ⌝ }
 {
     if byte_below(labels, words, at, m, rest) {
         fork_before(labels, words, at, n, k, m, rest, number);
@@ -160,7 +213,9 @@ fn fork_label(
 
 // The key ends at the slot: its number is set, and the old one given back. No span changes.
 fn set_number(words: &mut [u32], at: Slot, number: RuleNo, looked: Looked) -> Inserted
-    requires { ⌜ (wordsFor (nodesOf (now words)) ≤ length (now words)) × (at .0 < nodesOf (now words)) × (lenOf (now words) (at .0) ≤ 255) ⌝ }
+    requires { do
+      let ws = now words
+      ⌜ (wordsFor (nodesOf ws) ≤ length ws) × (at .0 < nodesOf ws) × (lenOf ws (at .0) ≤ 255) ⌝ }
     ensures placed { λ _. do
       let ws = now (words .entry)
       let vs = now (words .exit)
@@ -190,7 +245,10 @@ fn add_leaf(
     rest: &[u8],
     number: RuleNo,
 )
-    requires { ⌜ Grows (now words) (now labels) n k × Opens (now words) (now labels) (at .0) start (now rest) × (k ≡ leafNodes (length (now rest))) ⌝ }
+    requires { do
+      let ws = now words
+      let bs = now labels
+      ⌜ Grows ws bs n k × Opens ws bs (at .0) start (now rest) × (k ≡ leafNodes (length (now rest))) ⌝ }
     ensures { λ _. do
       let was = before labels words
       let is = after labels words
@@ -231,7 +289,10 @@ fn add_fork(
     rest: &[u8],
     number: RuleNo,
 )
-    requires { ⌜ Grows (now words) (now labels) n k × Forks (now words) (at .0) m (now rest) × (k ≡ 1 + leafNodes (length (now rest))) × PoolRule (now words) (now labels) ⌝ }
+    requires { do
+      let ws = now words
+      let bs = now labels
+      ⌜ Grows ws bs n k × Forks ws (at .0) m (now rest) × (k ≡ 1 + leafNodes (length (now rest))) × PoolRule ws bs ⌝ }
     ensures { λ _. do
       let was = before labels words
       let is = after labels words
@@ -257,7 +318,13 @@ fn place(
     key: &[u8],
     number: RuleNo,
 ) -> Inserted
-    requires { ⌜ PoolRule (now words) (now labels) × (length (now key) ≤ keyMax) × ((t : Tree) → poolTree (now words) (now labels) ≡ some t → Lands t (now key) d) × Grows (now words) (now labels) n k × (k ≡ newNodes (d .stop) (d .above) (length (now key))) ⌝ }
+    requires { do
+      let ws = now words
+      let bs = now labels
+      let q = now key
+      let due = newNodes (d .stop) (d .above) (length q)
+      ⌜ PoolRule ws bs × (length q ≤ keyMax) × ((t : Tree) → poolTree ws bs ≡ some t → Lands t q d)
+          × Grows ws bs n k × (k ≡ due) ⌝ }
     ensures { λ r. ⌜ InsertAllows (now (key .entry)) (number .0) r (before labels words) (after labels words) ⌝ }
 {
     let at = d.at;
@@ -306,7 +373,7 @@ pub fn insert(labels: &mut [u8], words: &mut [u32], key: &[u8], number: RuleNo) 
     if !pool::is_pool(labels, words) {
         return Inserted::NotPool;
     }
-    if key.len() > 4096 {
+    if key.len() > KEY_MAX {
         return Inserted::TooLong;
     }
     insert_in(labels, words, key, number)

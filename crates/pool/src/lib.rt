@@ -15,7 +15,10 @@ use slots::put::Head;
 use slots::put::put_words;
 use tree::Counted;
 use tree::Emptied;
+use tree::KEY_MAX;
+use tree::LABEL_MAX;
 use tree::RuleNo;
+use tree::SLOTS_MAX;
 use tree::Slot;
 
 // How many slots two slices have, if their lengths are those of a pool.
@@ -32,7 +35,7 @@ pub fn slots_of(labels: &[u8], words: &[u32]) -> Sized
     if slots < 1 {
         return Sized::Wrong;
     }
-    if slots > 16384 {
+    if slots > SLOTS_MAX {
         return Sized::Wrong;
     }
     if labels.len() != LABEL_ROOM * slots {
@@ -56,7 +59,7 @@ fn child_ok(labels: &[u8], words: &[u32], base: usize, end: Slot, least: usize, 
     if n < 1 {
         return false;
     }
-    if n > 255 {
+    if n > LABEL_MAX {
         return false;
     }
     let s = slots::span_at(words, c);
@@ -102,7 +105,7 @@ fn node_ok(labels: &[u8], words: &[u32], n: usize, at: Slot) -> bool
         return false;
     }
     let base = slots::start_at(words, at) + slots::len_at(words, at);
-    if base > 4096 {
+    if base > KEY_MAX {
         return false;
     }
     let s = slots::span_at(words, at);

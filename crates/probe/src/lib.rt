@@ -4,6 +4,7 @@ ghost use mathlib.Core.Path.{_≡_};
 ghost use Rattle.tree.specs.Key.{common};
 ghost use Rattle.tree.specs.Calls.{getCall};
 ghost use Rattle.pool.specs.Pool.{poolTree};
+use tree::KEY_MAX;
 
 // One get with the test, and then so many without it.
 #[no_mangle]
@@ -13,7 +14,7 @@ pub extern "C" fn probe_gets(labels: &[u8], words: &[u32], key: &[u8], times: us
     if !pool::is_pool(labels, words) {
         return 1;
     }
-    if key.len() > 4096 {
+    if key.len() > KEY_MAX {
         return 2;
     }
     let mut last = search::get_in(labels, words, key).number();

@@ -51,7 +51,9 @@ fn fill_slot(
     requires { ⌜ SlotDue (now tree) (now numbers) (now words) (now labels) path from ⌝ }
     ensures { λ _. do
       let r = recRead (now (tree .entry)) (now (numbers .entry)) path from
-      ⌜ SlotPut (now (words .entry)) (now (labels .entry)) (now (words .exit)) (now (labels .exit)) (from .slot .0) r ⌝ }
+      let ws = now (words .entry)
+      let bs = now (labels .entry)
+      ⌜ SlotPut ws bs (now (words .exit)) (now (labels .exit)) (from .slot .0) r ⌝ }
 {
     let at = from.at;
     let len = wide(tree[at + 1]);

@@ -17,6 +17,7 @@ use flags::has_number;
 use flags::has_sibling;
 use pool::Sized;
 use pool::slots_of;
+use tree::KEY_MAX;
 use tree::Level;
 use tree::Loaded;
 
@@ -90,7 +91,7 @@ fn test_body(tree: &[u8], level: Level, least: usize, path: usize, from: Mark) -
     if wide(tree[at + 4]) < least {
         return Found::Broken(Loaded::SiblingOrder(at));
     }
-    if path + wide(tree[at + 1]) > 4096 {
+    if path + wide(tree[at + 1]) > KEY_MAX {
         return Found::Broken(Loaded::PathTooLong);
     }
     let has = has_number(tree[at]);
@@ -106,7 +107,9 @@ fn test_body(tree: &[u8], level: Level, least: usize, path: usize, from: Mark) -
 // The tests of one record below the root, in document 01's order.
 fn test_record(tree: &[u8], level: Level, least: usize, path: usize, from: Mark) -> Found
     requires { ⌜ (from .at ≤ length (now tree)) × (path ≤ 4096) × (1 ≤ level .0) ⌝ }
-    ensures { λ r. ⌜ foundOf r ≡ judge (countRules (now (tree .entry)) (from .left) (level .0) least path (from .at)) ⌝ }
+    ensures { λ r. do
+      let s = now (tree .entry)
+      ⌜ foundOf r ≡ judge (countRules s (from .left) (level .0) least path (from .at)) ⌝ }
 {
     let head = test_head(tree, level, from.at);
     match head {

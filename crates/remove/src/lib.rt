@@ -10,6 +10,7 @@ ghost use Rattle.remove.specs.Post.{RemoveAllows};
 use search::Stop;
 use slots::put::Stored;
 use tree::Got;
+use tree::KEY_MAX;
 use tree::Looked;
 use tree::Slot;
 
@@ -56,7 +57,7 @@ pub fn remove(labels: &mut [u8], words: &mut [u32], key: &[u8]) -> Got
     if !pool::is_pool(labels, words) {
         return Got::NotPool;
     }
-    if key.len() > 4096 {
+    if key.len() > KEY_MAX {
         return Got::TooLong;
     }
     remove_in(labels, words, key)

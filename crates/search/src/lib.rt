@@ -16,6 +16,7 @@ ghost use Rattle.search.specs.Post.{GetAllows, LongestAllows, SharedAllo
 ghost use Rattle.search.specs.Landing.{descentOf, meetingOf, bestOf, Lands, InPool};
 use label::First;
 use tree::Got;
+use tree::KEY_MAX;
 use tree::Looked;
 use tree::Prefixed;
 use tree::RuleNo;
@@ -72,7 +73,10 @@ pub struct Descent {
 // How the key from p on meets the label of slot c.
 fn meet(labels: &[u8], words: &[u32], c: Slot, key: &[u8], p: usize) -> Meeting
     requires { ⌜ InPool (now words) (now labels) (c .0) × (p < length (now key)) ⌝ }
-    ensures { λ r. ⌜ r ≡ meetingOf (drop p (now (key .entry))) (labelOf (now (words .entry)) (now (labels .entry)) (c .0)) ⌝ }
+    ensures { λ r. do
+      let ws = now (words .entry)
+      let bs = now (labels .entry)
+      ⌜ r ≡ meetingOf (drop p (now (key .entry))) (labelOf ws bs (c .0)) ⌝ }
 {
     match label::cmp_first_item(key[p], slots::first_at(labels, c)) {
         First::Below => return Meeting::Before,
@@ -124,7 +128,10 @@ fn landed(stop: Stop, at: Slot, parent: Slot, above: usize, best: Best, looked: 
 // are at most c.
 pub fn descend(labels: &[u8], words: &[u32], key: &[u8]) -> Descent
     requires { ⌜ PoolRule (now words) (now labels) × (length (now key) ≤ keyMax) ⌝ }
-    ensures { λ r. ⌜ ((t : Tree) → poolTree (now (words .entry)) (now (labels .entry)) ≡ some t → Lands t (now (key .entry)) r) ⌝ }
+    ensures { λ r. do
+      let ws = now (words .entry)
+      let bs = now (labels .entry)
+      ⌜ ((t : Tree) → poolTree ws bs ≡ some t → Lands t (now (key .entry)) r) ⌝ }
 {
     let n = slots::nodes_in(words);
     let mut best = best_at(words, Slot(0), 0, Best::None);
@@ -201,7 +208,7 @@ pub fn get(labels: &[u8], words: &[u32], key: &[u8]) -> Got
     if !pool::is_pool(labels, words) {
         return Got::NotPool;
     }
-    if key.len() > 4096 {
+    if key.len() > KEY_MAX {
         return Got::TooLong;
     }
     get_in(labels, words, key)
@@ -228,7 +235,7 @@ pub fn longest(labels: &[u8], words: &[u32], query: &[u8]) -> Prefixed
     if !pool::is_pool(labels, words) {
         return Prefixed::NotPool;
     }
-    if query.len() > 4096 {
+    if query.len() > KEY_MAX {
         return Prefixed::TooLong;
     }
     longest_in(labels, words, query)
@@ -262,7 +269,7 @@ pub fn shared(labels: &[u8], words: &[u32], query: &[u8]) -> Sharing
     if !pool::is_pool(labels, words) {
         return Sharing::NotPool;
     }
-    if query.len() > 4096 {
+    if query.len() > KEY_MAX {
         return Sharing::TooLong;
     }
     shared_in(labels, words, query)

@@ -5,6 +5,7 @@ ghost use Prim.Native.Nat.{_+_, _≤_, _<_};
 ghost use lib.ListN.{length, set};
 ghost use Rattle.slots.specs.Layout.{slotsIn, labelRoom, WordsIn, RoomIn, fieldAt, startField, lenField, hasField, spanField, nodesWord, nodesOf, startOf, lenOf, hasOf, numberOf, spanOf, firstOf, labelOf};
 ghost use Rattle.slots.specs.Bare.{numberPut};
+use tree::LABEL_MAX;
 use tree::RuleNo;
 use tree::Slot;
 
@@ -13,7 +14,7 @@ pub const HEAD_WORDS: usize = 8;
 
 pub const SLOT_WORDS: usize = 8;
 
-pub const LABEL_ROOM: usize = 255;
+pub const LABEL_ROOM: usize = LABEL_MAX;
 
 // The fields of slot 0.
 const START: usize = HEAD_WORDS;

@@ -57,7 +57,12 @@ pub fn put_label(labels: &mut [u8], at: Slot, label: &[u8])
 pub fn put_slot(labels: &mut [u8], words: &mut [u32], at: Slot, head: Head, label: &[u8])
     requires { ⌜ WordsIn (now words) (at .0) × RoomIn (now labels) (at .0) ⌝ }
     requires { ⌜ (length (now label) ≤ labelRoom) × (head .len ≡ length (now label)) ⌝ }
-    ensures { λ _. ⌜ SlotPut (now (words .entry)) (now (labels .entry)) (now (words .exit)) (now (labels .exit)) (at .0) (recOf head (now (label .entry))) ⌝ }
+    ensures { λ _. do
+      let ws = now (words .entry)
+      let bs = now (labels .entry)
+      let vs = now (words .exit)
+      let cs = now (labels .exit)
+      ⌜ SlotPut ws bs vs cs (at .0) (recOf head (now (label .entry))) ⌝ }
 {
     put_words(words, at, head);
     put_label(labels, at, label);
@@ -124,8 +129,19 @@ pub fn put_linked(
     stored: Stored,
     span: usize,
 )
-    requires { ⌜ WordsIn (now words) (at .0) × RoomIn (now labels) (at .0) × (start ≤ 4096) × (length (now bytes) ≤ labelRoom) × (span < 4294967296) ⌝ }
-    ensures { λ _. ⌜ Filled (now (words .entry)) (now (labels .entry)) (now (words .exit)) (now (labels .exit)) (at .0) (bareOf start (now (bytes .entry)) (storedOf stored)) × (spanOf (now (words .exit)) (at .0) ≡ span) ⌝ }
+    requires { do
+      let i = at .0
+      let l = now bytes
+      let bs = now labels
+      let ws = now words
+      ⌜ WordsIn ws i × RoomIn bs i × (start ≤ 4096) × (length l ≤ labelRoom) × (span < 4294967296) ⌝ }
+    ensures { λ _. do
+      let ws = now (words .entry)
+      let bs = now (labels .entry)
+      let vs = now (words .exit)
+      let cs = now (labels .exit)
+      let i = at .0
+      ⌜ Filled ws bs vs cs i (bareOf start (now (bytes .entry)) (storedOf stored)) × (spanOf vs i ≡ span) ⌝ }
 {
     let head = head_of(start, bytes.len(), stored, span);
     put_slot(labels, words, at, head, bytes);
@@ -144,8 +160,15 @@ pub fn stored_at(words: &[u32], at: Slot) -> Stored
 
 // Keeps the first m bytes of a slot's label, with this number or none. The bytes stay where they are, and so does the span.
 pub fn keep_front(words: &mut [u32], at: Slot, m: usize, stored: Stored)
-    requires { ⌜ WordsIn (now words) (at .0) × (m ≤ lenOf (now words) (at .0)) × (lenOf (now words) (at .0) ≤ labelRoom) ⌝ }
-    ensures { λ _. ⌜ ((bs : List ℕ) → RoomIn bs (at .0) → Filled (now (words .entry)) bs (now (words .exit)) bs (at .0) (frontOf m (storedOf stored) (bareAt (now (words .entry)) bs (at .0)))) × (spanOf (now (words .exit)) (at .0) ≡ spanOf (now (words .entry)) (at .0)) ⌝ }
+    requires { do
+      let ws = now words
+      ⌜ WordsIn ws (at .0) × (m ≤ lenOf ws (at .0)) × (lenOf ws (at .0) ≤ labelRoom) ⌝ }
+    ensures { λ _. do
+      let ws = now (words .entry)
+      let vs = now (words .exit)
+      let i = at .0
+      ⌜ ((bs : List ℕ) → RoomIn bs i → Filled ws bs vs bs i (frontOf m (storedOf stored) (bareAt ws bs i)))
+          × (spanOf vs i ≡ spanOf ws i) ⌝ }
 {
     let start = start_at(words, at);
     put_head(words, at, start, m, stored);
@@ -153,8 +176,16 @@ pub fn keep_front(words: &mut [u32], at: Slot, m: usize, stored: Stored)
 
 // Keeps what is behind the first m bytes of a slot's label, with the slot's number and span, under m more bytes of the path.
 pub fn keep_back(labels: &mut [u8], words: &mut [u32], at: Slot, m: usize)
-    requires { ⌜ WordsIn (now words) (at .0) × RoomIn (now labels) (at .0) × (m ≤ lenOf (now words) (at .0)) × (lenOf (now words) (at .0) ≤ labelRoom) × (startOf (now words) (at .0) ≤ 4096) ⌝ }
-    ensures { λ _. ⌜ Filled (now (words .entry)) (now (labels .entry)) (now (words .exit)) (now (labels .exit)) (at .0) (backOf m (bareAt (now (words .entry)) (now (labels .entry)) (at .0))) × (spanOf (now (words .exit)) (at .0) ≡ spanOf (now (words .entry)) (at .0)) ⌝ }
+    requires { do
+      let ws = now words
+      let i = at .0
+      ⌜ WordsIn ws i × RoomIn (now labels) i × (m ≤ lenOf ws i) × (lenOf ws i ≤ labelRoom) × (startOf ws i ≤ 4096) ⌝ }
+    ensures { λ _. do
+      let ws = now (words .entry)
+      let bs = now (labels .entry)
+      let vs = now (words .exit)
+      let cs = now (labels .exit)
+      ⌜ Filled ws bs vs cs (at .0) (backOf m (bareAt ws bs (at .0))) × (spanOf vs (at .0) ≡ spanOf ws (at .0)) ⌝ }
 {
     let from = LABEL_ROOM * at.0;
     let start = start_at(words, at);

@@ -16,7 +16,10 @@ use tree::Slot;
 // Makes the slot a gap.
 pub fn open_gap(words: &mut [u32], at: Slot)
     requires { ⌜ WordsIn (now words) (at .0) ⌝ }
-    ensures { λ _. ⌜ ((bs : List ℕ) → Altered (now (words .entry)) bs (now (words .exit)) bs (at .0) (gapOf (bareAt (now (words .entry)) bs (at .0)))) ⌝ }
+    ensures { λ _. do
+      let ws = now (words .entry)
+      let vs = now (words .exit)
+      ⌜ ((bs : List ℕ) → Altered ws bs vs bs (at .0) (gapOf (bareAt ws bs (at .0)))) ⌝ }
 {
     slots::set_len(words, at, 0);
 }
@@ -24,7 +27,10 @@ pub fn open_gap(words: &mut [u32], at: Slot)
 // Takes the slot's number away.
 pub fn drop_number(words: &mut [u32], at: Slot)
     requires { ⌜ WordsIn (now words) (at .0) ⌝ }
-    ensures { λ _. ⌜ ((bs : List ℕ) → Altered (now (words .entry)) bs (now (words .exit)) bs (at .0) (numberless (bareAt (now (words .entry)) bs (at .0)))) ⌝ }
+    ensures { λ _. do
+      let ws = now (words .entry)
+      let vs = now (words .exit)
+      ⌜ ((bs : List ℕ) → Altered ws bs vs bs (at .0) (numberless (bareAt ws bs (at .0)))) ⌝ }
 {
     slots::set_has(words, at, 0);
 }
@@ -32,7 +38,12 @@ pub fn drop_number(words: &mut [u32], at: Slot)
 // Puts the child's label behind the slot's own, and gives the slot the child's number or none.
 pub fn join_label(labels: &mut [u8], words: &mut [u32], at: Slot, child: Slot)
     requires { ⌜ Joinable (now words) (now labels) (at .0) (child .0) ⌝ }
-    ensures { λ _. ⌜ Altered (now (words .entry)) (now (labels .entry)) (now (words .exit)) (now (labels .exit)) (at .0) (joinOf (bareAt (now (words .entry)) (now (labels .entry)) (at .0)) (bareAt (now (words .entry)) (now (labels .entry)) (child .0))) ⌝ }
+    ensures { λ _. do
+      let ws = now (words .entry)
+      let bs = now (labels .entry)
+      let vs = now (words .exit)
+      let cs = now (labels .exit)
+      ⌜ Altered ws bs vs cs (at .0) (joinOf (bareAt ws bs (at .0)) (bareAt ws bs (child .0))) ⌝ }
 {
     let from = LABEL_ROOM * child.0;
     let start = slots::start_at(words, at);
@@ -47,7 +58,10 @@ pub fn join_label(labels: &mut [u8], words: &mut [u32], at: Slot, child: Slot)
 // Makes the slots `from` .. `to` gaps.
 pub fn open_gaps(words: &mut [u32], from: Slot, to: Slot)
     requires { ⌜ (from .0 ≤ to .0) × (wordsFor (to .0) ≤ length (now words)) ⌝ }
-    ensures { λ _. ⌜ ((bs : List ℕ) → bytesFor (to .0) ≤ length bs → Emptied (now (words .entry)) bs (now (words .exit)) (from .0) (to .0)) ⌝ }
+    ensures { λ _. do
+      let ws = now (words .entry)
+      let vs = now (words .exit)
+      ⌜ ((bs : List ℕ) → bytesFor (to .0) ≤ length bs → Emptied ws bs vs (from .0) (to .0)) ⌝ }
 {
     let end = to.0;
     let mut i = from.0;

@@ -16,7 +16,9 @@ use tree::Slot;
 // deeper. The spans behind it are right, so it goes from child to child.
 fn extent(words: &[u32], n: usize, at: Slot) -> usize
     requires { ⌜ (wordsFor n ≤ length (now words)) × (n ≤ 16384) × (at .0 < n) × Linked (now words) (at .0 + 1) n ⌝ }
-    ensures { λ r. ⌜ (r ≡ 1 + reach (now (words .entry)) (startOf (now (words .entry)) (at .0) + lenOf (now (words .entry)) (at .0)) (at .0 + 1) (n - (at .0 + 1))) × (r ≤ 16384) ⌝ }
+    ensures { λ r. do
+      let ws = now (words .entry)
+      ⌜ (r ≡ 1 + reach ws (startOf ws (at .0) + lenOf ws (at .0)) (at .0 + 1) (n - (at .0 + 1))) × (r ≤ 16384) ⌝ }
 {
     let i = at.0;
     let base = slots::start_at(words, at) + slots::len_at(words, at);
@@ -106,7 +108,12 @@ pub fn settle_at(words: &mut [u32], n: usize, at: Slot, k: usize)
 // Opens a gap: the slots `from` .. `to` move up by k.
 pub fn move_slots(labels: &mut [u8], words: &mut [u32], from: Slot, to: Slot, k: usize)
     requires { ⌜ Room (now words) (now labels) (from .0) (to .0) k ⌝ }
-    ensures { λ _. ⌜ Moved (now (words .entry)) (now (labels .entry)) (now (words .exit)) (now (labels .exit)) (from .0) (to .0) k ⌝ }
+    ensures { λ _. do
+      let ws = now (words .entry)
+      let bs = now (labels .entry)
+      let vs = now (words .exit)
+      let cs = now (labels .exit)
+      ⌜ Moved ws bs vs cs (from .0) (to .0) k ⌝ }
 {
     let from = from.0;
     let to = to.0;
@@ -134,7 +141,12 @@ fn label_room(words: &[u32], at: Slot) -> usize
 // Moves one slot down: its words, and the bytes of its label.
 fn lower_slot(labels: &mut [u8], words: &mut [u32], from: Slot, to: Slot)
     requires { ⌜ (to .0 < from .0) × WordsIn (now words) (from .0) × RoomIn (now labels) (from .0) ⌝ }
-    ensures { λ _. ⌜ Filled (now (words .entry)) (now (labels .entry)) (now (words .exit)) (now (labels .exit)) (to .0) (bareAt (now (words .entry)) (now (labels .entry)) (from .0)) ⌝ }
+    ensures { λ _. do
+      let ws = now (words .entry)
+      let bs = now (labels .entry)
+      let vs = now (words .exit)
+      let cs = now (labels .exit)
+      ⌜ Filled ws bs vs cs (to .0) (bareAt ws bs (from .0)) ⌝ }
 {
     let i = from.0;
     let k = i - to.0;
@@ -151,7 +163,12 @@ fn lower_slot(labels: &mut [u8], words: &mut [u32], from: Slot, to: Slot)
 // Keeps slot `from`, as slot `to`, or passes it: one without a label is a gap. Gives the next place.
 fn sweep_slot(labels: &mut [u8], words: &mut [u32], from: Slot, to: Slot) -> Slot
     requires { ⌜ (to .0 ≤ from .0) × WordsIn (now words) (from .0) × RoomIn (now labels) (from .0) ⌝ }
-    ensures { λ r. ⌜ Swept (now (words .entry)) (now (labels .entry)) (now (words .exit)) (now (labels .exit)) (from .0) (to .0) (r .0) ⌝ }
+    ensures { λ r. do
+      let ws = now (words .entry)
+      let bs = now (labels .entry)
+      let vs = now (words .exit)
+      let cs = now (labels .exit)
+      ⌜ Swept ws bs vs cs (from .0) (to .0) (r .0) ⌝ }
 {
     if slots::len_at(words, from) == 0 {
         return to;

@@ -18,6 +18,7 @@ use pool::Sized;
 use search::Stop;
 use slots::put::Head;
 use tree::Divided;
+use tree::KEY_MAX;
 use tree::RuleNo;
 use tree::Slot;
 
@@ -34,7 +35,13 @@ fn carry(
 )
     requires { ⌜ WordsIn (now words) (from .0) × (start < 4294967296) × (length (now label) ≤ 255) ⌝ }
     requires { ⌜ Within (now words2) (now labels2) (to .0 + 1) ⌝ }
-    ensures { λ _. ⌜ SlotPut (now (words2 .entry)) (now (labels2 .entry)) (now (words2 .exit)) (now (labels2 .exit)) (to .0) (carried (now (words .entry)) (from .0) start (now (label .entry))) ⌝ }
+    ensures { λ _. do
+      let ws = now (words .entry)
+      let ws2 = now (words2 .entry)
+      let bs2 = now (labels2 .entry)
+      let vs2 = now (words2 .exit)
+      let cs2 = now (labels2 .exit)
+      ⌜ SlotPut ws2 bs2 vs2 cs2 (to .0) (carried ws (from .0) start (now (label .entry))) ⌝ }
 {
     let head = Head {
         start: start as u32,
@@ -56,9 +63,18 @@ fn lift_slot(
     words2: &mut [u32],
     to: Slot,
 )
-    requires { ⌜ Within (now words) (now labels) (from .0 + 1) × (base ≤ startOf (now words) (from .0)) × (lenOf (now words) (from .0) ≤ 255) ⌝ }
+    requires { do
+      let ws = now words
+      ⌜ Within ws (now labels) (from .0 + 1) × (base ≤ startOf ws (from .0)) × (lenOf ws (from .0) ≤ 255) ⌝ }
     requires { ⌜ Within (now words2) (now labels2) (to .0 + 1) ⌝ }
-    ensures { λ _. ⌜ SlotPut (now (words2 .entry)) (now (labels2 .entry)) (now (words2 .exit)) (now (labels2 .exit)) (to .0) (lowered base (recAt (now (words .entry)) (now (labels .entry)) (from .0))) ⌝ }
+    ensures { λ _. do
+      let ws = now (words .entry)
+      let bs = now (labels .entry)
+      let ws2 = now (words2 .entry)
+      let bs2 = now (labels2 .entry)
+      let vs2 = now (words2 .exit)
+      let cs2 = now (labels2 .exit)
+      ⌜ SlotPut ws2 bs2 vs2 cs2 (to .0) (lowered base (recAt ws bs (from .0))) ⌝ }
 {
     let start = slots::start_at(words, from) - base;
     let label = slots::label_at(labels, words, from);
@@ -76,8 +92,16 @@ fn lift(
     words2: &mut [u32],
     to: Slot,
 )
-    requires { ⌜ Liftable (now words) (now labels) (from .0) count base × Within (now words2) (now labels2) (to .0 + count) ⌝ }
-    ensures { λ _. ⌜ Lifted (now (words .entry)) (now (labels .entry)) (now (words2 .entry)) (now (labels2 .entry)) (now (words2 .exit)) (now (labels2 .exit)) (from .0) (to .0) count base ⌝ }
+    requires { ⌜ Liftable (now words) (now labels) (from .0) count base
+        × Within (now words2) (now labels2) (to .0 + count) ⌝ }
+    ensures { λ _. do
+      let ws = now (words .entry)
+      let bs = now (labels .entry)
+      let ws2 = now (words2 .entry)
+      let bs2 = now (labels2 .entry)
+      let vs2 = now (words2 .exit)
+      let cs2 = now (labels2 .exit)
+      ⌜ Lifted ws bs ws2 bs2 vs2 cs2 (from .0) (to .0) count base ⌝ }
 {
     let from = from.0;
     let to = to.0;
@@ -114,8 +138,17 @@ fn put_root(words: &mut [u32], has: u32, number: RuleNo, nodes: usize)
 
 // Carries the subtree of a slot over, with the slot as the root.
 fn detach_node(labels: &[u8], words: &[u32], at: Slot, labels2: &mut [u8], words2: &mut [u32])
-    requires { ⌜ Detachable (now words) (now labels) (at .0) × Within (now words2) (now labels2) (spanOf (now words) (at .0)) ⌝ }
-    ensures { λ _. ⌜ Detached (now (words .entry)) (now (labels .entry)) (now (words2 .entry)) (now (labels2 .entry)) (now (words2 .exit)) (now (labels2 .exit)) (at .0) (startOf (now (words .entry)) (at .0) + lenOf (now (words .entry)) (at .0)) ⌝ }
+    requires { do
+      let ws = now words
+      ⌜ Detachable ws (now labels) (at .0) × Within (now words2) (now labels2) (spanOf ws (at .0)) ⌝ }
+    ensures { λ _. do
+      let ws = now (words .entry)
+      let bs = now (labels .entry)
+      let ws2 = now (words2 .entry)
+      let bs2 = now (labels2 .entry)
+      let vs2 = now (words2 .exit)
+      let cs2 = now (labels2 .exit)
+      ⌜ Detached ws bs ws2 bs2 vs2 cs2 (at .0) (startOf ws (at .0) + lenOf ws (at .0)) ⌝ }
 {
     let span = slots::span_at(words, at);
     let base = slots::start_at(words, at) + slots::len_at(words, at);
@@ -143,8 +176,18 @@ fn top_slot(
     labels2: &mut [u8],
     words2: &mut [u32],
 )
-    requires { ⌜ Within (now words) (now labels) (at .0 + 1) × (m ≤ lenOf (now words) (at .0)) × (lenOf (now words) (at .0) ≤ 255) × Within (now words2) (now labels2) 2 ⌝ }
-    ensures { λ _. ⌜ SlotPut (now (words2 .entry)) (now (labels2 .entry)) (now (words2 .exit)) (now (labels2 .exit)) 1 (topped m (recAt (now (words .entry)) (now (labels .entry)) (at .0))) ⌝ }
+    requires { do
+      let ws = now words
+      let i = at .0
+      ⌜ Within ws (now labels) (i + 1) × (m ≤ lenOf ws i) × (lenOf ws i ≤ 255) × Within (now words2) (now labels2) 2 ⌝ }
+    ensures { λ _. do
+      let ws = now (words .entry)
+      let bs = now (labels .entry)
+      let ws2 = now (words2 .entry)
+      let bs2 = now (labels2 .entry)
+      let vs2 = now (words2 .exit)
+      let cs2 = now (labels2 .exit)
+      ⌜ SlotPut ws2 bs2 vs2 cs2 1 (topped m (recAt ws bs (at .0))) ⌝ }
 {
     let label = slots::label_at(labels, words, at);
     carry(words, at, 0, &label[m..], labels2, words2, Slot(1));
@@ -159,8 +202,18 @@ fn detach_label(
     labels2: &mut [u8],
     words2: &mut [u32],
 )
-    requires { ⌜ Detachable (now words) (now labels) (at .0) × (m ≤ lenOf (now words) (at .0)) × Within (now words2) (now labels2) (spanOf (now words) (at .0) + 1) ⌝ }
-    ensures { λ _. ⌜ DetachedBelow (now (words .entry)) (now (labels .entry)) (now (words2 .entry)) (now (labels2 .entry)) (now (words2 .exit)) (now (labels2 .exit)) (at .0) m (startOf (now (words .entry)) (at .0) + m) ⌝ }
+    requires { do
+      let ws = now words
+      let i = at .0
+      ⌜ Detachable ws (now labels) i × (m ≤ lenOf ws i) × Within (now words2) (now labels2) (spanOf ws i + 1) ⌝ }
+    ensures { λ _. do
+      let ws = now (words .entry)
+      let bs = now (labels .entry)
+      let ws2 = now (words2 .entry)
+      let bs2 = now (labels2 .entry)
+      let vs2 = now (words2 .exit)
+      let cs2 = now (labels2 .exit)
+      ⌜ DetachedBelow ws bs ws2 bs2 vs2 cs2 (at .0) m (startOf ws (at .0) + m) ⌝ }
 {
     let span = slots::span_at(words, at);
     let base = slots::start_at(words, at) + m;
@@ -182,7 +235,12 @@ fn detach_label(
 // Takes the subtree of a slot out, and tidies from its parent up.
 fn leave(labels: &mut [u8], words: &mut [u32], at: Slot, parent: Slot)
     requires { ⌜ Leaving (now words) (now labels) (at .0) (parent .0) ⌝ }
-    ensures { λ _. ⌜ ((x : Leaving (now (words .entry)) (now (labels .entry)) (at .0) (parent .0)) → Tidied (now (words .entry)) (now (labels .entry)) (now (words .exit)) (now (labels .exit)) (x .left)) ⌝ }
+    ensures { λ _. do
+      let ws = now (words .entry)
+      let bs = now (labels .entry)
+      let vs = now (words .exit)
+      let cs = now (labels .exit)
+      ⌜ ((x : Leaving ws bs (at .0) (parent .0)) → Tidied ws bs vs cs (x .left)) ⌝ }
 {
     let end = at.0 + slots::span_at(words, at);
     splice::alter::open_gaps(words, at, Slot(end));
@@ -222,7 +280,8 @@ fn split_node(
     words2: &mut [u32],
     room: usize,
 ) -> Divided
-    requires { ⌜ Landed (now words) (now labels) Stop.Same (at .0) (parent .0) × Lengths (now words2) (now labels2) room ⌝ }
+    requires { ⌜ Landed (now words) (now labels) Stop.Same (at .0) (parent .0)
+        × Lengths (now words2) (now labels2) room ⌝ }
     ensures { λ r. do
       let was = before labels words
       let was₂ = before labels2 words2
@@ -248,7 +307,8 @@ fn split_label(
     words2: &mut [u32],
     room: usize,
 ) -> Divided
-    requires { ⌜ Landed (now words) (now labels) (Stop.Inside m) (at .0) (parent .0) × Lengths (now words2) (now labels2) room ⌝ }
+    requires { ⌜ Landed (now words) (now labels) (Stop.Inside m) (at .0) (parent .0)
+        × Lengths (now words2) (now labels2) room ⌝ }
     ensures { λ r. do
       let was = before labels words
       let was₂ = before labels2 words2
@@ -272,7 +332,8 @@ fn split_in(
     words2: &mut [u32],
     room: usize,
 ) -> Divided
-    requires { ⌜ PoolRule (now words) (now labels) × (length (now prefix) ≤ keyMax) × Lengths (now words2) (now labels2) room ⌝ }
+    requires { ⌜ PoolRule (now words) (now labels) × (length (now prefix) ≤ keyMax)
+        × Lengths (now words2) (now labels2) room ⌝ }
     ensures { λ r. do
       let was = before labels words
       let was₂ = before labels2 words2
@@ -310,7 +371,7 @@ pub fn split(
     let Sized::Slots(room) = pool::slots_of(labels2, words2) else {
         return Divided::NotPool;
     };
-    if prefix.len() > 4096 {
+    if prefix.len() > KEY_MAX {
         return Divided::TooLong;
     }
     split_in(labels, words, prefix, labels2, words2, room)

@@ -12,6 +12,7 @@ ghost use Rattle.tree.specs.Tree.{Forest};
 ghost use Rattle.slots.specs.Layout.{wordsFor, bytesFor, WordsIn, spanOf};
 ghost use Rattle.tidy.specs.Climb.{Climbing, Stage, Tidied};
 ghost use Rattle.tidy.specs.Sparse.{Sparse, Hops, Next, Ripe, Ready, KidsAre, OnlyChild, Below, NodeSettled, Parent};
+use tree::LABEL_MAX;
 use tree::Slot;
 
 // The children of a slot: none, one at a slot, or more.
@@ -24,7 +25,11 @@ pub enum Kids {
 // The first slot from `from` on, from span to span, that is no gap, or `end`.
 fn next_child(words: &[u32], from: Slot, end: Slot) -> Slot
     requires { ⌜ (wordsFor (end .0) ≤ length (now words)) × Hops (now words) (end .0) (from .0) ⌝ }
-    ensures { λ r. ⌜ Hops (now (words .entry)) (end .0) (r .0) × ((bs : List ℕ) (s : ℕ) (f : Forest) → Sparse (now (words .entry)) bs s (end .0) f (from .0) → Next (now (words .entry)) bs s (end .0) f (from .0) (r .0)) ⌝ }
+    ensures { λ r. do
+      let ws = now (words .entry)
+      let e = end .0
+      ⌜ Hops ws e (r .0)
+          × ((bs : List ℕ) (s : ℕ) (f : Forest) → Sparse ws bs s e f (from .0) → Next ws bs s e f (from .0) (r .0)) ⌝ }
 {
     let end = end.0;
     let mut c = from.0;
@@ -39,9 +44,15 @@ fn next_child(words: &[u32], from: Slot, end: Slot) -> Slot
 
 // What children a slot has.
 fn kids_of(words: &[u32], at: Slot) -> Kids
-    requires { ⌜ (wordsFor (at .0 + spanOf (now words) (at .0)) ≤ length (now words)) × (1 ≤ spanOf (now words) (at .0)) ⌝ }
+    requires { do
+      let ws = now words
+      ⌜ (wordsFor (at .0 + spanOf ws (at .0)) ≤ length ws) × (1 ≤ spanOf ws (at .0)) ⌝ }
     requires { ⌜ Hops (now words) (at .0 + spanOf (now words) (at .0)) (at .0 + 1) ⌝ }
-    ensures { λ r. ⌜ ((bs : List ℕ) (s b : ℕ) (l : Key) (w : Num) (kids : Forest) → Ripe (now (words .entry)) bs (at .0) s b l w kids → KidsAre (now (words .entry)) bs (at .0) (s + suc (length l)) kids r) ⌝ }
+    ensures { λ r. do
+      let ws = now (words .entry)
+      let i = at .0
+      ⌜ ((bs : List ℕ) (s b : ℕ) (l : Key) (w : Num) (kids : Forest)
+          → Ripe ws bs i s b l w kids → KidsAre ws bs i (s + suc (length l)) kids r) ⌝ }
 {
     let end = at.0 + slots::span_at(words, at);
     let first = at.0 + 1;
@@ -60,9 +71,17 @@ fn kids_of(words: &[u32], at: Slot) -> Kids
 // A slot without a number takes in its only child, if the joined label has at most 255 bytes.
 fn take_in(labels: &mut [u8], words: &mut [u32], at: Slot, child: Slot)
     requires { ⌜ Below (now words) (now labels) (at .0) (child .0) ⌝ }
-    ensures { λ _. ⌜ ((s b : ℕ) (l : Key) (kids : Forest) → Ripe (now (words .entry)) (now (labels .entry)) (at .0) s b l none kids → OnlyChild (now (words .entry)) (now (labels .entry)) (at .0) (s + suc (length l)) kids (child .0) → bytesFor (at .0 + spanOf (now (words .entry)) (at .0)) ≤ length (now (labels .entry)) → NodeSettled (now (words .entry)) (now (labels .entry)) (now (words .exit)) (now (labels .exit)) (at .0) s b l none kids) ⌝ }
+    ensures { λ _. do
+      let ws = now (words .entry)
+      let bs = now (labels .entry)
+      let vs = now (words .exit)
+      let cs = now (labels .exit)
+      let i = at .0
+      ⌜ ((s b : ℕ) (l : Key) (kids : Forest)
+          → Ripe ws bs i s b l none kids → OnlyChild ws bs i (s + suc (length l)) kids (child .0)
+          → bytesFor (i + spanOf ws i) ≤ length bs → NodeSettled ws bs vs cs i s b l none kids) ⌝ }
 {
-    if slots::len_at(words, at) + slots::len_at(words, child) > 255 {
+    if slots::len_at(words, at) + slots::len_at(words, child) > LABEL_MAX {
         return;
     }
     splice::alter::join_label(labels, words, at, child);
@@ -72,7 +91,14 @@ fn take_in(labels: &mut [u8], words: &mut [u32], at: Slot, child: Slot)
 // Settles one node: it goes if it has neither number nor child, and it takes in an only child if it has no number.
 fn settle_node(labels: &mut [u8], words: &mut [u32], at: Slot)
     requires { ⌜ Ready (now words) (now labels) (at .0) ⌝ }
-    ensures { λ _. ⌜ ((s b : ℕ) (l : Key) (w : Num) (kids : Forest) → Ripe (now (words .entry)) (now (labels .entry)) (at .0) s b l w kids → NodeSettled (now (words .entry)) (now (labels .entry)) (now (words .exit)) (now (labels .exit)) (at .0) s b l w kids) ⌝ }
+    ensures { λ _. do
+      let ws = now (words .entry)
+      let bs = now (labels .entry)
+      let vs = now (words .exit)
+      let cs = now (labels .exit)
+      let i = at .0
+      ⌜ ((s b : ℕ) (l : Key) (w : Num) (kids : Forest)
+          → Ripe ws bs i s b l w kids → NodeSettled ws bs vs cs i s b l w kids) ⌝ }
 {
     if slots::has_at(words, at) > 0 {
         return;
@@ -103,7 +129,12 @@ fn parent_of(words: &[u32], at: Slot) -> Slot
 // Settles the slot and each of its ancestors but the root. Gaps are left where nodes went.
 fn climb(labels: &mut [u8], words: &mut [u32], from: Slot)
     requires { ⌜ Climbing (now words) (now labels) (from .0) ⌝ }
-    ensures { λ _. ⌜ ((x : Climbing (now (words .entry)) (now (labels .entry)) (from .0)) → Stage (x .words) (x .labels) (x .whole) (x .final) (now (words .exit)) (now (labels .exit)) 0) ⌝ }
+    ensures { λ _. do
+      let ws = now (words .entry)
+      let bs = now (labels .entry)
+      let vs = now (words .exit)
+      let cs = now (labels .exit)
+      ⌜ ((x : Climbing ws bs (from .0)) → Stage (x .words) (x .labels) (x .whole) (x .final) vs cs 0) ⌝ }
 {
     let mut c = from.0;
     while 0 < c {
@@ -116,7 +147,12 @@ fn climb(labels: &mut [u8], words: &mut [u32], from: Slot)
 // spans put right. Each is one pass.
 pub fn tidy(labels: &mut [u8], words: &mut [u32], from: Slot)
     requires { ⌜ Climbing (now words) (now labels) (from .0) ⌝ }
-    ensures { λ _. ⌜ ((x : Climbing (now (words .entry)) (now (labels .entry)) (from .0)) → Tidied (now (words .entry)) (now (labels .entry)) (now (words .exit)) (now (labels .exit)) (x .final)) ⌝ }
+    ensures { λ _. do
+      let ws = now (words .entry)
+      let bs = now (labels .entry)
+      let vs = now (words .exit)
+      let cs = now (labels .exit)
+      ⌜ ((x : Climbing ws bs (from .0)) → Tidied ws bs vs cs (x .final)) ⌝ }
 {
     climb(labels, words, from);
     let n = slots::nodes_in(words);

@@ -12,6 +12,7 @@ ghost use Rattle.pool.specs.Lent.{before};
 ghost use Rattle.pool.specs.Rule.{PoolRule};
 ghost use Rattle.walk.specs.Due.{lastIf, due, GivesKey, LayRoom, Laid, Sought};
 ghost use Rattle.walk.specs.Walks.{handedOn, Begins, HandedIn, StepAllows};
+use tree::KEY_MAX;
 use tree::RuleNo;
 use tree::Slot;
 use tree::Stepped;
@@ -67,7 +68,10 @@ fn is_due(key: &[u8], prefix: &[u8], last: &[u8], begun: bool) -> bool
 // Lays the label of a slot behind the bytes above it in the path, and gives the length of the slot's key.
 fn lay(labels: &[u8], words: &[u32], at: Slot, path: &mut [u8]) -> usize
     requires { ⌜ LayRoom (now words) (now labels) (now path) (at .0) ⌝ }
-    ensures { λ r. ⌜ Laid (now (words .entry)) (now (labels .entry)) (now (path .entry)) (at .0) (now (path .exit)) r ⌝ }
+    ensures { λ r. do
+      let ws = now (words .entry)
+      let bs = now (labels .entry)
+      ⌜ Laid ws bs (now (path .entry)) (at .0) (now (path .exit)) r ⌝ }
 {
     let from = slots::start_at(words, at);
     let to = from + slots::len_at(words, at);
@@ -97,7 +101,10 @@ fn seek(
     path: &mut [u8],
 ) -> Found
     requires { ⌜ PoolRule (now words) (now labels) × (length (now path) ≡ keyMax) ⌝ }
-    ensures { λ r. ⌜ Sought (now (words .entry)) (now (labels .entry)) (now (prefix .entry)) (lastIf begun (now (last .entry))) r (now (path .exit)) ⌝ }
+    ensures { λ r. do
+      let ws = now (words .entry)
+      let bs = now (labels .entry)
+      ⌜ Sought ws bs (now (prefix .entry)) (lastIf begun (now (last .entry))) r (now (path .exit)) ⌝ }
 {
     let n = slots::nodes_in(words);
     let mut i: usize = 0;
@@ -156,7 +163,7 @@ impl Walk {
         let n = prefix.len();
         let last = blank();
         let mut kept = blank();
-        if n <= 4096 {
+        if n <= KEY_MAX {
             label::copy(&mut kept[..n], prefix);
         }
         Walk {
@@ -197,10 +204,10 @@ impl Walk {
         let last = self.last;
         let p = self.prefix_len;
         let l = last_length(self.begun, self.last_len);
-        if p > 4096 {
+        if p > KEY_MAX {
             return refused(Stepped::TooLong, self);
         }
-        if l > 4096 {
+        if l > KEY_MAX {
             return refused(Stepped::TooLong, self);
         }
         let mut path = blank();

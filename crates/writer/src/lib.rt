@@ -41,7 +41,10 @@ fn write_record(
     at: usize,
 ) -> usize
     requires { ⌜ RecordRoom (now words) (now labels) (slot .0) (level .0) (now out) at ⌝ }
-    ensures { λ r. ⌜ Put (recordAt (now (words .entry)) (now (labels .entry)) (slot .0) (level .0) sibling) (now (out .entry)) at (now (out .exit)) r ⌝ }
+    ensures { λ r. do
+      let ws = now (words .entry)
+      let bs = now (labels .entry)
+      ⌜ Put (recordAt ws bs (slot .0) (level .0) sibling) (now (out .entry)) at (now (out .exit)) r ⌝ }
 {
     let n = slots::len_at(words, slot);
     let number = 0 < slots::has_at(words, slot);
@@ -114,8 +117,12 @@ fn write_tree(labels: &[u8], words: &[u32], out: &mut [u8])
 // Writes the number of one slot, if it has one, and gives the place behind it. Counterpart: what `Node::serialize` pushes
 // to its values for one node.
 fn write_number(words: &[u32], slot: Slot, out: &mut [u64], at: usize) -> usize
-    requires { ⌜ WordsIn (now words) (slot .0) × (at + length (numbersW (numAt (now words) (slot .0)) []) ≤ length (now out)) ⌝ }
-    ensures { λ r. ⌜ Put (numbersW (numAt (now (words .entry)) (slot .0)) []) (now (out .entry)) at (now (out .exit)) r ⌝ }
+    requires { do
+      let ws = now words
+      ⌜ WordsIn ws (slot .0) × (at + length (numbersW (numAt ws (slot .0)) []) ≤ length (now out)) ⌝ }
+    ensures { λ r. do
+      let ws = now (words .entry)
+      ⌜ Put (numbersW (numAt ws (slot .0)) []) (now (out .entry)) at (now (out .exit)) r ⌝ }
 {
     if slots::has_at(words, slot) == 0 {
         return at;
