@@ -9,11 +9,16 @@ use pool::Pool;
 use std::hint::black_box;
 use std::time::{Duration, Instant};
 
-/// One row of a pass: nanoseconds a call here, and of the Rust, where it has such a call.
+/// One row of a pass: nanoseconds a call here, of the Rust, where it has such a call, and of the sketch in C, where that has it.
 struct Row {
     what: &'static str,
     here: f64,
     rust: Option<f64>,
+    sketch: Option<f64>,
+}
+
+fn row(what: &'static str, here: f64, rust: Option<f64>, sketch: Option<f64>) -> Row {
+    Row { what, here, rust, sketch }
 }
 
 fn middle(mut values: Vec<f64>) -> f64 {
@@ -99,12 +104,22 @@ fn searches(data: &Data, pool: &Pool) -> Vec<Row> {
             black_box(data.map.get(black_box(name)));
         }
     });
+    let sketch_test = straight(data.few, || assert!(black_box(pool.sketch_test())));
+    let sketch_once = straight(data.few, || assert!(black_box(pool.sketch_test_once())));
+    let sketch_many = straight(data.few, || {
+        let name = next();
+        for _ in 0..1000 {
+            black_box(pool.sketch_get(black_box(name)));
+        }
+    });
+    let nodes = data.nodes as f64;
     vec![
-        Row { what: "counts: the test of the pool, and the keys", here: test, rust: None },
-        Row { what: "the same a node", here: test / data.nodes as f64, rust: None },
-        Row { what: "get, one key after another", here: get, rust: Some(rust_get) },
-        Row { what: "longest, one key after another", here: longest, rust: Some(rust_longest) },
-        Row { what: "get without the test, one key again and again", here: (many - one) / 1000.0, rust: Some(rust_many / 1000.0) },
+        row("counts: the test of the pool, and the keys", test, None, Some(sketch_test)),
+        row("the same a node", test / nodes, None, Some(sketch_test / nodes)),
+        row("the same beside the sketch of another form", test / nodes, None, Some(sketch_once / nodes)),
+        row("get, one key after another", get, Some(rust_get), None),
+        row("longest, one key after another", longest, Some(rust_longest), None),
+        row("get without the test, one key again and again", (many - one) / 1000.0, Some(rust_many / 1000.0), Some(sketch_many / 1000.0)),
     ]
 }
 
@@ -128,10 +143,10 @@ fn changes(data: &Data, pool: &mut Pool, test: f64) -> Vec<Row> {
     }
     let [remove, insert, rust_remove, rust_insert] = times.map(middle);
     vec![
-        Row { what: "insert of a new key", here: insert, rust: Some(rust_insert) },
-        Row { what: "the same in tests of the pool", here: insert / test, rust: None },
-        Row { what: "remove", here: remove, rust: Some(rust_remove) },
-        Row { what: "the same in tests of the pool", here: remove / test, rust: None },
+        row("insert of a new key", insert, Some(rust_insert), None),
+        row("the same in tests of the pool", insert / test, None, None),
+        row("remove", remove, Some(rust_remove), None),
+        row("the same in tests of the pool", remove / test, None, None),
     ]
 }
 
@@ -151,7 +166,7 @@ fn splits(data: &Data, full: &Pool) -> Vec<Row> {
         assert_eq!(part.len(), into.counts().0);
         took
     });
-    vec![Row { what: "split, a 25th of the keys", here, rust: Some(rust) }]
+    vec![row("split, a 25th of the keys", here, Some(rust), None)]
 }
 
 fn images(data: &Data, pool: &mut Pool) -> Vec<Row> {
@@ -163,7 +178,12 @@ fn images(data: &Data, pool: &mut Pool) -> Vec<Row> {
     assert_eq!(from_image::<PatriciaMap<u64>>(tree, numbers).unwrap().len(), data.names.len());
     let read = straight(data.few, || pool.read(tree, numbers));
     let rust_read = straight(data.few, || { black_box(from_image::<PatriciaMap<u64>>(tree, numbers).unwrap()); });
-    vec![Row { what: "write", here: write, rust: Some(rust_write) }, Row { what: "read", here: read, rust: Some(rust_read) }]
+    let sketch_write = straight(data.few, || { black_box(pool.sketch_write(&mut out, &mut values)); });
+    assert_eq!((&out, &values), (tree, numbers));
+    let mut other = Pool::new(data.slots);
+    let sketch_read = straight(data.few, || other.sketch_read(tree, numbers));
+    assert!(other.write(&mut out, &mut values) == (tree.len(), numbers.len()) && &out == tree && &values == numbers);
+    vec![row("write", write, Some(rust_write), Some(sketch_write)), row("read", read, Some(rust_read), Some(sketch_read))]
 }
 
 fn pass(data: &Data) -> Vec<Row> {
@@ -183,19 +203,20 @@ fn figure(value: f64) -> String {
 
 fn table(data: &Data, passes: &[Vec<Row>]) {
     println!("\n{} keys, {} nodes, {} slots; nanoseconds a call, medians of {} passes\n", data.names.len(), data.nodes, data.slots, passes.len());
-    println!("| call | here | Rust | Rust / here | lowest to highest |\n|---|---|---|---|---|");
+    println!("| call | here | sketch in C | Rust | Rust / here | lowest to highest |\n|---|---|---|---|---|---|");
     for at in 0..passes[0].len() {
         let column = |of: &dyn Fn(&Row) -> f64| passes.iter().map(|rows| of(&rows[at])).collect::<Vec<f64>>();
         let here = column(&|row| row.here);
         let spread = |values: &[f64]| format!("{} to {}", figure(values.iter().copied().fold(f64::MAX, f64::min)), figure(values.iter().copied().fold(0.0, f64::max)));
         let what = passes[0][at].what;
+        let sketch = passes[0][at].sketch.map_or(String::new(), |_| figure(middle(column(&|row| row.sketch.unwrap()))));
         if passes[0][at].rust.is_none() {
-            println!("| {what} | {} | | | {} |", figure(middle(here.clone())), spread(&here));
+            println!("| {what} | {} | {sketch} | | | {} |", figure(middle(here.clone())), spread(&here));
             continue;
         }
         let rust = column(&|row| row.rust.unwrap());
         let ratio = column(&|row| row.rust.unwrap() / row.here);
-        println!("| {what} | {} | {} | {:.3} | {:.3} to {:.3} |", figure(middle(here)), figure(middle(rust)), middle(ratio.clone()), ratio.iter().copied().fold(f64::MAX, f64::min), ratio.iter().copied().fold(0.0, f64::max));
+        println!("| {what} | {} | {sketch} | {} | {:.3} | {:.3} to {:.3} |", figure(middle(here)), figure(middle(rust)), middle(ratio.clone()), ratio.iter().copied().fold(f64::MAX, f64::min), ratio.iter().copied().fold(0.0, f64::max));
     }
 }
 

@@ -17,6 +17,16 @@ unsafe extern "C" {
     fn probe_gets(labels: *const u8, labels_len: usize, words: *const u32, words_len: usize, key: *const u8, key_len: usize, times: usize) -> u32;
 }
 
+/// The passes as a sketch in C, `bench/sketch.c`.
+#[link(name = "sketch", kind = "static")]
+unsafe extern "C" {
+    fn sketch_test(labels: *const u8, words: *const u32, slots: usize) -> i32;
+    fn sketch_test_once(labels: *const u8, words: *const u32, slots: usize) -> i32;
+    fn sketch_get(labels: *const u8, words: *const u32, key: *const u8, key_len: usize) -> u64;
+    fn sketch_write(labels: *const u8, words: *const u32, slots: usize, out: *mut u8, room: usize, numbers: *mut u64, numbers_room: usize) -> usize;
+    fn sketch_read(labels: *mut u8, words: *mut u32, slots: usize, tree: *const u8, tree_len: usize, numbers: *const u64, numbers_len: usize) -> i32;
+}
+
 #[derive(Clone, PartialEq)]
 pub struct Pool {
     labels: Vec<u8>,
@@ -88,5 +98,29 @@ impl Pool {
             yarnhollow_write(self.labels.as_ptr(), self.labels.len(), self.words.as_ptr(), self.words.len(), tree.as_mut_ptr(), tree.len(), numbers.as_mut_ptr(), numbers.len(), &mut tree_length, &mut numbers_length)
         });
         (tree_length, numbers_length)
+    }
+
+    fn slots(&self) -> usize {
+        self.labels.len() / 255
+    }
+
+    pub fn sketch_test(&self) -> bool {
+        unsafe { sketch_test(self.labels.as_ptr(), self.words.as_ptr(), self.slots()) == 1 }
+    }
+
+    pub fn sketch_test_once(&self) -> bool {
+        unsafe { sketch_test_once(self.labels.as_ptr(), self.words.as_ptr(), self.slots()) == 1 }
+    }
+
+    pub fn sketch_get(&self, key: &[u8]) -> u64 {
+        unsafe { sketch_get(self.labels.as_ptr(), self.words.as_ptr(), key.as_ptr(), key.len()) }
+    }
+
+    pub fn sketch_write(&self, tree: &mut [u8], numbers: &mut [u64]) -> usize {
+        unsafe { sketch_write(self.labels.as_ptr(), self.words.as_ptr(), self.slots(), tree.as_mut_ptr(), tree.len(), numbers.as_mut_ptr(), numbers.len()) }
+    }
+
+    pub fn sketch_read(&mut self, tree: &[u8], numbers: &[u64]) {
+        assert_eq!(unsafe { sketch_read(self.labels.as_mut_ptr(), self.words.as_mut_ptr(), self.slots(), tree.as_ptr(), tree.len(), numbers.as_ptr(), numbers.len()) }, 1);
     }
 }
