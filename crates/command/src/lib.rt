@@ -1,4 +1,6 @@
 // A command line taken apart: its verb, its pool, and what its words stand for.
+#![tactic(auto)]
+
 ghost use Rattle.std.specs.Prelude.{◌≡◌, take, drop};
 ghost use Rattle.command.specs.Front.{VerbOf, NamedOf, CommandOf, CommentOf, HeardOf};
 
@@ -6,7 +8,7 @@ use line::{Numeral, Taken};
 use tree::{KEY_MAX, RuleNo};
 
 // What a command asks for.
-#[derive(Drop)]
+#[derive(Clone, Copy)]
 pub enum Verb {
     Make,
     Clear,
@@ -25,7 +27,7 @@ pub enum Verb {
 }
 
 // A pool's name.
-#[derive(Drop)]
+#[derive(Clone, Copy)]
 pub enum Named {
     First,
     Second,
@@ -34,7 +36,7 @@ pub enum Named {
 
 // The front of a command: its verb, the pool that it names, and where that name ends; behind a space there its further words
 // begin.
-#[derive(Drop)]
+#[derive(Clone, Copy)]
 pub struct Command {
     pub verb: Verb,
     pub pool: Named,
@@ -44,7 +46,7 @@ pub struct Command {
 // What the words behind the pool's name stand for, if they are `good` for their verb. A key, a prefix or an image is the first
 // `key` bytes of the room, and the last key given of a walk the `last` bytes behind them, if `begun` says that one was. `number`
 // is the number to store; `count` is how many numbers an image has, or the length of a step's output.
-#[derive(Drop)]
+#[derive(Clone, Copy)]
 pub struct Words {
     pub good: bool,
     pub key: usize,
@@ -55,7 +57,7 @@ pub struct Words {
 }
 
 // An empty line and a comment ask for nothing.
-#[derive(Drop)]
+#[derive(Clone, Copy)]
 pub enum Heard {
     Nothing,
     Asks(Command, Words),

@@ -1,6 +1,8 @@
 // A dozen images, each cut at every place and changed in every byte to every value, read into a pool of six slots. The
 // listed verdicts come from `bench/verdicts`, a second reader that shares no code with ours. A line of a byte has each
 // verdict behind the first value that gets it.
+#![tactic(auto)]
+
 use tree::{Loaded, RuleNo, Written};
 
 // The number of a verdict, and the offset of those that have one.

@@ -1,5 +1,7 @@
 // The flag byte of an image's record. Counterpart: `Flags` of the Rust, with VALUE_ALLOCATED 1, VALUE_INITIALIZED 2,
 // CHILD_ALLOCATED 4, CHILD_INITIALIZED 8, SIBLING_ALLOCATED 16 and SIBLING_INITIALIZED 32.
+#![tactic(auto)]
+
 ghost use Rattle.std.specs.Prelude.{◌≡◌, ◌<◌};
 ghost use Rattle.tree.specs.Told.{refusal};
 ghost use Rattle.tree.specs.Reader.{judge, flag_rules, has_number, has_child, has_sibling};

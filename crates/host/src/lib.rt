@@ -1,10 +1,12 @@
 // The store for a C program: one exported function a call. Each hands its call's answer on as document 01's number, and the
 // values besides through the results that the caller lends. `include/yarnhollow.h` is what a C program reads. A stored number
 // is a `RuleNo` inside; only the edge to C has plain 64 bits.
+#![tactic(auto)]
+
 ghost use Rattle.std.specs.Prelude.{◌≡◌, [], ◌∷◌};
 ghost use Rattle.tree.specs.Calls.{make_call, clear_call, get_call, insert_call, remove_call, longest_call, shared_call};
 ghost use Rattle.tree.specs.Calls.{split_call, counts_call, read_call};
-ghost use Rattle.pool.specs.Lent.{before, after, tree_in, size_in, room_in};
+ghost use Rattle.pool.specs.Lent.{lent, tree_in, size_in, room_in};
 ghost use Rattle.host.specs.Host.{over, over_last, over_flagged, Returns, Changes, Splits};
 ghost use Rattle.host.specs.Host.{last_given, NextGiven, Written};
 ghost use Rattle.host.specs.Resumed.{Resumes};
@@ -16,18 +18,18 @@ mod results;
 
 #[unsafe(no_mangle)]
 pub extern "C" fn yarnhollow_make(labels: &mut [u8], words: &mut [u32]) -> u32
-    ensures* { do
-      let was = before labels words
-      ⌜ Changes over (make_call (size_in was)) result [] [] was (after labels words) ⌝ }
+    ensures {
+      let was = lent labels.old words.old in
+      Changes over (make_call (size_in was)) result [] [] was (lent labels.new words.new) }
 {
     pool::make(labels, words).number()
 }
 
 #[unsafe(no_mangle)]
 pub extern "C" fn yarnhollow_clear(labels: &mut [u8], words: &mut [u32]) -> u32
-    ensures* { do
-      let was = before labels words
-      ⌜ Changes over (clear_call (tree_in was)) result [] [] was (after labels words) ⌝ }
+    ensures {
+      let was = lent labels.old words.old in
+      Changes over (clear_call (tree_in was)) result [] [] was (lent labels.new words.new) }
 {
     pool::clear(labels, words).number()
 }
@@ -40,11 +42,11 @@ pub extern "C" fn yarnhollow_get(
     number: &mut u64,
     looked: &mut usize,
 ) -> u32
-    ensures* { do
-      let t = tree_in (before labels words)
-      let results = number.old ∷ looked.old ∷ []
-      let results' = number.new ∷ looked.new ∷ []
-      ⌜ Returns over_last (get_call t key.now) result results results' ⌝ }
+    ensures {
+      let t = tree_in (lent labels.now words.now) in
+      let results = number.old ∷ looked.old ∷ [] in
+      let results' = number.new ∷ looked.new ∷ [] in
+      Returns over_last (get_call t key.now) result results results' }
 {
     let answer = search::get(labels, words, key);
     results::store_got(answer, number, looked);
@@ -61,12 +63,12 @@ pub extern "C" fn yarnhollow_insert(
     old: &mut u64,
     looked: &mut usize,
 ) -> u32
-    ensures* { do
-      let was = before labels words
-      let call = insert_call (tree_in was) (room_in was) key.now number
-      let results = had_old.old ∷ old.old ∷ looked.old ∷ []
-      let results' = had_old.new ∷ old.new ∷ looked.new ∷ []
-      ⌜ Changes over_flagged call result results results' was (after labels words) ⌝ }
+    ensures {
+      let was = lent labels.old words.old in
+      let call = insert_call (tree_in was) (room_in was) key.now number in
+      let results = had_old.old ∷ old.old ∷ looked.old ∷ [] in
+      let results' = had_old.new ∷ old.new ∷ looked.new ∷ [] in
+      Changes over_flagged call result results results' was (lent labels.new words.new) }
 {
     let answer = insert::insert(labels, words, key, RuleNo(number));
     results::store_inserted(answer, had_old, old, looked);
@@ -81,12 +83,12 @@ pub extern "C" fn yarnhollow_remove(
     old: &mut u64,
     looked: &mut usize,
 ) -> u32
-    ensures* { do
-      let was = before labels words
-      let call = remove_call (tree_in was) key.now
-      let results = old.old ∷ looked.old ∷ []
-      let results' = old.new ∷ looked.new ∷ []
-      ⌜ Changes over_last call result results results' was (after labels words) ⌝ }
+    ensures {
+      let was = lent labels.old words.old in
+      let call = remove_call (tree_in was) key.now in
+      let results = old.old ∷ looked.old ∷ [] in
+      let results' = old.new ∷ looked.new ∷ [] in
+      Changes over_last call result results results' was (lent labels.new words.new) }
 {
     let answer = remove::remove(labels, words, key);
     results::store_got(answer, old, looked);
@@ -102,11 +104,11 @@ pub extern "C" fn yarnhollow_longest(
     number: &mut u64,
     looked: &mut usize,
 ) -> u32
-    ensures* { do
-      let t = tree_in (before labels words)
-      let results = prefix_length.old ∷ number.old ∷ looked.old ∷ []
-      let results' = prefix_length.new ∷ number.new ∷ looked.new ∷ []
-      ⌜ Returns over_last (longest_call t query.now) result results results' ⌝ }
+    ensures {
+      let t = tree_in (lent labels.now words.now) in
+      let results = prefix_length.old ∷ number.old ∷ looked.old ∷ [] in
+      let results' = prefix_length.new ∷ number.new ∷ looked.new ∷ [] in
+      Returns over_last (longest_call t query.now) result results results' }
 {
     let answer = search::longest(labels, words, query);
     results::store_prefixed(answer, prefix_length, number, looked);
@@ -121,11 +123,11 @@ pub extern "C" fn yarnhollow_shared(
     shared_length: &mut usize,
     looked: &mut usize,
 ) -> u32
-    ensures* { do
-      let t = tree_in (before labels words)
-      let results = shared_length.old ∷ looked.old ∷ []
-      let results' = shared_length.new ∷ looked.new ∷ []
-      ⌜ Returns over_last (shared_call t query.now) result results results' ⌝ }
+    ensures {
+      let t = tree_in (lent labels.now words.now) in
+      let results = shared_length.old ∷ looked.old ∷ [] in
+      let results' = shared_length.new ∷ looked.new ∷ [] in
+      Returns over_last (shared_call t query.now) result results results' }
 {
     let answer = search::shared(labels, words, query);
     results::store_sharing(answer, shared_length, looked);
@@ -155,12 +157,12 @@ pub extern "C" fn yarnhollow_next(
     key_length: &mut usize,
     number: &mut u64,
 ) -> u32
-    ensures* { do
-      let t = tree_in (before labels words)
-      let l = last_given begun last.now
-      let results = key_length.old ∷ number.old ∷ []
-      let results' = key_length.new ∷ number.new ∷ []
-      ⌜ NextGiven t prefix.now l result results results' out.old out.new ⌝ }
+    ensures {
+      let t = tree_in (lent labels.now words.now) in
+      let l = last_given begun last.now in
+      let results = key_length.old ∷ number.old ∷ [] in
+      let results' = key_length.new ∷ number.new ∷ [] in
+      NextGiven t prefix.now l result results results' out.old out.new }
 {
     let step = resumed(prefix, last, begun).step(labels, words, out);
     let answer = step.answer;
@@ -176,11 +178,11 @@ pub extern "C" fn yarnhollow_split(
     labels2: &mut [u8],
     words2: &mut [u32],
 ) -> u32
-    ensures* { do
-      let was = before labels words
-      let was₂ = before labels2 words2
-      let call = split_call (tree_in was) (size_in was₂) prefix.now
-      ⌜ Splits call result was was₂ (after labels words) (after labels2 words2) ⌝ }
+    ensures {
+      let was = lent labels.old words.old in
+      let was₂ = lent labels2.old words2.old in
+      let call = split_call (tree_in was) (size_in was₂) prefix.now in
+      Splits call result was was₂ (lent labels.new words.new) (lent labels2.new words2.new) }
 {
     split::split(labels, words, prefix, labels2, words2).number()
 }
@@ -192,11 +194,11 @@ pub extern "C" fn yarnhollow_counts(
     keys: &mut usize,
     nodes: &mut usize,
 ) -> u32
-    ensures* { do
-      let t = tree_in (before labels words)
-      let results = keys.old ∷ nodes.old ∷ []
-      let results' = keys.new ∷ nodes.new ∷ []
-      ⌜ Returns over (counts_call t) result results results' ⌝ }
+    ensures {
+      let t = tree_in (lent labels.now words.now) in
+      let results = keys.old ∷ nodes.old ∷ [] in
+      let results' = keys.new ∷ nodes.new ∷ [] in
+      Returns over (counts_call t) result results results' }
 {
     let answer = pool::counts(labels, words);
     results::store_counted(answer, keys, nodes);
@@ -212,12 +214,12 @@ pub extern "C" fn yarnhollow_write(
     tree_length: &mut usize,
     numbers_length: &mut usize,
 ) -> u32
-    ensures* { do
-      let t = tree_in (before labels words)
-      let results = tree_length.old ∷ numbers_length.old ∷ []
-      let results' = tree_length.new ∷ numbers_length.new ∷ []
-      let s = tree.old
-      ⌜ Written t result results results' s numbers.old tree.new numbers.new ⌝ }
+    ensures {
+      let t = tree_in (lent labels.now words.now) in
+      let results = tree_length.old ∷ numbers_length.old ∷ [] in
+      let results' = tree_length.new ∷ numbers_length.new ∷ [] in
+      let s = tree.old in
+      Written t result results results' s numbers.old tree.new numbers.new }
 {
     let answer = writer::write(labels, words, tree, numbers);
     results::store_written(answer, tree_length, numbers_length);
@@ -232,10 +234,10 @@ pub extern "C" fn yarnhollow_read(
     numbers: &[u64],
     offset: &mut usize,
 ) -> u32
-    ensures* { do
-      let was = before labels words
-      let call = read_call (size_in was) tree.now numbers.now
-      ⌜ Changes over call result (offset.old ∷ []) (offset.new ∷ []) was (after labels words) ⌝ }
+    ensures {
+      let was = lent labels.old words.old in
+      let call = read_call (size_in was) tree.now numbers.now in
+      Changes over call result (offset.old ∷ []) (offset.new ∷ []) was (lent labels.new words.new) }
 {
     let answer = reader::read(labels, words, tree, numbers);
     results::store_loaded(answer, offset);

@@ -1,11 +1,13 @@
 // Standard input, line by line.
+#![tactic(auto)]
+
 ghost use Rattle.input.specs.Lines.{Keeps, Unread};
 
 use libc::STDIN_FILENO;
 
 // A line: so many bytes of it have come, one more than its room has where it is too long. The next one begins at `at` in the
 // chunk, of which `got` bytes are read; or the input has ended.
-#[derive(Drop)]
+#[derive(Clone, Copy)]
 pub struct Next {
     pub len: usize,
     pub at: usize,

@@ -1,11 +1,13 @@
 // Runs of bytes and words: what the store does with labels, keys and whole slots, a loop of its own each.
+#![tactic(auto)]
+
 ghost use Rattle.std.specs.Prelude.{◌≡◌, leb, length, drop};
 ghost use Prim.Native.Nat.{◌+◌, ◌*◌, ◌/◌, ◌≤◌, ◌<◌, min, compare};
 ghost use Rattle.tree.specs.Key.{common};
 ghost use Rattle.label.specs.Runs.{order_of, four_at, eight_at, MovedUp, MovedDown};
 
 // How the first byte of a key stands to the first byte of a label.
-#[derive(Drop)]
+#[derive(Clone, Copy)]
 pub enum First {
     Below,
     Same,

@@ -1,5 +1,6 @@
 // The words of a line. Words are apart by one space; keys, prefixes and images are lower-case hex, `-` for none; numbers
 // are decimal without leading zeros; lists are joined by commas, `-` for none.
+#![tactic(auto)]
 
 ghost use Rattle.std.specs.Prelude.{◌≡◌};
 ghost use Rattle.line.specs.Spelling.{FirstWord, HexTaken, KeyTaken, DecimalTaken, NumberTaken, ManyTaken, ListTaken};
@@ -9,13 +10,13 @@ ghost use Rattle.line.specs.Spelling.{nibble as Spelling·nibble};
 const LARGEST: u64 = 18446744073709551615;
 
 // How many bytes or numbers a word has given, at the front of the room lent for them.
-#[derive(Drop)]
+#[derive(Clone, Copy)]
 pub enum Taken {
     Count(usize),
     Bad,
 }
 
-#[derive(Drop)]
+#[derive(Clone, Copy)]
 pub enum Numeral {
     Is(u64),
     Bad,

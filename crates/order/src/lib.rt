@@ -1,1 +1,2 @@
 // This crate holds laws only: order leaves no trace.
+#![tactic(auto)]

@@ -1,8 +1,6 @@
 -- The two lent slices of a pool at one moment: as a call is given them, or as it leaves them.
 use Rattle.std.specs.Prelude.{List, ℕ}
 use Rattle.std.proofs.Math.Option.{Option}
-use Rattle.std.specs.Borrow.{Bor}
-use denote.Triple.Both.{Both}
 use Rattle.tree.specs.Tree.{Tree}
 use Rattle.slots.specs.Layout.{slots_in}
 use Rattle.pool.specs.Pool.{pool_tree, slots_of}
@@ -11,15 +9,8 @@ pub record Lent : Type 0 where
   pub words : List ℕ
   pub labels : List ℕ
 
--- A lent slice as a contract sees it: at the call, and as it returns
-abbrev pub Slice : Type 0
-Slice = Both (Bor (List ℕ)) (Bor (List ℕ))
-
-abbrev pub before : (labels words : Slice) → Lent
-before labels words = record { words = words.entry.now; labels = labels.entry.now }
-
-abbrev pub after : (labels words : Slice) → Lent
-after labels words = record { words = words.exit.now; labels = labels.exit.now }
+abbrev pub lent : (labels words : List ℕ) → Lent
+lent labels words = record { words = words; labels = labels }
 
 -- The tree that they hold, or none where they are no pool
 abbrev pub tree_in : Lent → Option Tree

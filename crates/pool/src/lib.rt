@@ -1,9 +1,11 @@
 // A pool of slots in two lent slices: the full test, and the calls that need no search. docs/POOL.md has the rule.
+#![tactic(auto)]
+
 ghost use Rattle.std.specs.Prelude.{◌≡◌, ℕ, ◌+◌, ◌*◌, ◌≤◌, ◌<◌, length};
 ghost use Rattle.slots.specs.Layout.{words_for, WordsIn, has_of};
 ghost use Rattle.pool.specs.Pool.{slots_of};
 ghost use Rattle.pool.specs.Rule.{Says, Within, Child, Children, NodeAt, Lengths, PoolRule};
-ghost use Rattle.pool.specs.Lent.{before, after};
+ghost use Rattle.pool.specs.Lent.{lent};
 ghost use Rattle.pool.specs.Post.{MakeAllows, ClearAllows, CountsAllows};
 ghost use Rattle.pool.specs.Fields.{sized_of, has_sum, emptied};
 
@@ -12,7 +14,7 @@ use slots::{HEAD_WORDS, LABEL_ROOM, SLOT_WORDS};
 use tree::{Counted, Emptied, KEY_MAX, LABEL_MAX, RuleNo, SLOTS_MAX, Slot};
 
 // How many slots two slices have, if their lengths are those of a pool.
-#[derive(Drop)]
+#[derive(Clone, Copy)]
 pub enum Sized {
     Slots(usize),
     Wrong,
@@ -168,7 +170,7 @@ pub fn write_empty(words: &mut [u32])
 
 // Makes a fresh pool. Only the lengths are tested; old contents don't matter.
 pub fn make(labels: &mut [u8], words: &mut [u32]) -> Emptied
-    ensures { MakeAllows result (before labels words) (after labels words) }
+    ensures { MakeAllows result (lent labels.old words.old) (lent labels.new words.new) }
 {
     let Sized::Slots(_) = slots_of(labels, words) else {
         return Emptied::NotPool;
@@ -179,7 +181,7 @@ pub fn make(labels: &mut [u8], words: &mut [u32]) -> Emptied
 
 // Leaves the empty tree in a pool.
 pub fn clear(labels: &mut [u8], words: &mut [u32]) -> Emptied
-    ensures { ClearAllows result (before labels words) (after labels words) }
+    ensures { ClearAllows result (lent labels.old words.old) (lent labels.new words.new) }
 {
     if !is_pool(labels, words) {
         return Emptied::NotPool;
@@ -204,7 +206,7 @@ pub fn keys_in(words: &[u32], n: usize) -> usize
 
 // Keys and nodes, the root included.
 pub fn counts(labels: &[u8], words: &[u32]) -> Counted
-    ensures { CountsAllows result (before labels words) }
+    ensures { CountsAllows result (lent labels.now words.now) }
 {
     if !is_pool(labels, words) {
         return Counted::NotPool;

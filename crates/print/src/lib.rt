@@ -1,4 +1,6 @@
 // Text on standard output: numbers in decimal, bytes in lower-case hex, lists joined by commas, `-` for none.
+#![tactic(auto)]
+
 ghost use Rattle.std.specs.Prelude.{◌≡◌, ◌<◌, length};
 ghost use Rattle.io.specs.Digits.{hex_digit_ascii as Digits·glyph};
 ghost use Rattle.print.specs.Hex.{Spelt};

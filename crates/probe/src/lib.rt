@@ -1,5 +1,7 @@
 // For the benchmark alone: lookups without the test of the pool, which no public call gives, and the shared length of
 // two runs, by steps of eight and by the plain loop.
+#![tactic(auto)]
+
 ghost use Rattle.std.specs.Prelude.{◌≡◌};
 ghost use Rattle.tree.specs.Key.{common};
 ghost use Rattle.tree.specs.Calls.{get_call};

@@ -1,9 +1,11 @@
 // The image's reader: a full check first, a fill after, so that a refusal leaves every lent byte and word as it was.
 // Counterpart: `KeyAndNode::deserialize`, which builds as it parses and takes many images that are refused here.
+#![tactic(auto)]
+
 ghost use Rattle.std.specs.Prelude.{◌≡◌, ◌+◌, ◌≤◌, ◌<◌, length, get_or};
 ghost use Rattle.tree.specs.Reader.{judge};
 ghost use Rattle.tree.specs.Told.{loaded_told};
-ghost use Rattle.pool.specs.Lent.{before, after};
+ghost use Rattle.pool.specs.Lent.{lent};
 ghost use Rattle.reader.specs.Post.{ReadAllows};
 ghost use Rattle.reader.specs.Check.{found_of, head_rules, body_rules, count_rules, went_to, NodeChecked, KidsChecked, Place, RootChecked, CheckedAs, answer_of};
 
@@ -14,14 +16,14 @@ use pool::{Sized, slots_of};
 use tree::{KEY_MAX, Level, Loaded};
 
 // What the tests of one record answer.
-#[derive(Drop)]
+#[derive(Clone, Copy)]
 enum Found {
     Sound,
     Broken(Loaded),
 }
 
 // How far the check has come: the offset of the next record, the numbers left and the nodes passed.
-#[derive(Drop)]
+#[derive(Clone, Copy)]
 struct Mark {
     at: usize,
     left: usize,
@@ -30,7 +32,7 @@ struct Mark {
 
 // What checking a part of the image answers: how far it has come, whether all that it passed is sound, and if not, with what
 // the image is refused.
-#[derive(Drop)]
+#[derive(Clone, Copy)]
 struct Part {
     to: Mark,
     sound: bool,
@@ -38,7 +40,7 @@ struct Part {
 }
 
 // What the check of a whole image answers: how many nodes it has, or the refusal.
-#[derive(Drop)]
+#[derive(Clone, Copy)]
 pub enum Checked {
     Accepted(usize),
     Refused(Loaded),
@@ -103,9 +105,9 @@ fn test_body(tree: &[u8], level: Level, least: usize, path: usize, from: Mark) -
 // The tests of one record below the root, in document 01's order.
 fn test_record(tree: &[u8], level: Level, least: usize, path: usize, from: Mark) -> Found
     requires { (from.at ≤ length tree.now) × (path ≤ 4096) × (1 ≤ level.0) }
-    ensures* { do
-      let s = tree.now
-      ⌜ found_of result ≡ judge (count_rules s from.left level.0 least path from.at) ⌝ }
+    ensures {
+      let s = tree.now in
+      found_of result ≡ judge (count_rules s from.left level.0 least path from.at) }
 {
     let head = test_head(tree, level, from.at);
     match head {
@@ -279,9 +281,9 @@ fn answer(verdict: Checked) -> Loaded
 // Reads an image into a pool, of which only the lengths are tested: old contents don't matter. With any number but 0 no lent
 // byte or word has changed. Counterpart: `KeyAndNode::deserialize`.
 pub fn read(labels: &mut [u8], words: &mut [u32], tree: &[u8], numbers: &[u64]) -> Loaded
-    ensures* { do
-      let was = before labels words
-      ⌜ ReadAllows tree.now numbers.now result was (after labels words) ⌝ }
+    ensures {
+      let was = lent labels.old words.old in
+      ReadAllows tree.now numbers.now result was (lent labels.new words.new) }
 {
     let Sized::Slots(slots) = slots_of(labels, words) else {
         return Loaded::NotPool;

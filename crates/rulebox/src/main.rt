@@ -1,6 +1,8 @@
 // Commands on standard input, one a line, on two pools of 128 slots named 0 and 1; one line of answer each on standard output.
 // An answer begins with document 01's number; what is no command is answered by `?` and changes nothing. A line is read, then
 // taken apart, then run, so that few functions have pools in hand, and only `main`, `respond` and `divide` both.
+#![tactic(auto)]
+
 use command::{Heard, Named, Verb, Words};
 use walk::Walk;
 

@@ -1,4 +1,6 @@
 // The search: one descent through the pool, and the three calls over it. Nothing is written, no key is copied.
+#![tactic(auto)]
+
 ghost use Rattle.std.specs.Prelude.{◌≡◌, ◌+◌, ◌*◌, ◌≤◌, ◌<◌, length, drop};
 ghost use Rattle.tree.specs.Key.{key_max};
 ghost use Rattle.tree.specs.Tree.{Tree};
@@ -9,7 +11,7 @@ ghost use Rattle.std.proofs.Math.Option.{some};
 ghost use Rattle.slots.specs.Layout.{WordsIn, label_of, num_at};
 ghost use Rattle.pool.specs.Pool.{pool_tree};
 ghost use Rattle.pool.specs.Rule.{PoolRule};
-ghost use Rattle.pool.specs.Lent.{before};
+ghost use Rattle.pool.specs.Lent.{lent};
 ghost use Rattle.search.specs.Post.{GetAllows, LongestAllows, SharedAllows};
 ghost use Rattle.search.specs.Landing.{descent_of, meeting_of, best_of, Lands, InPool};
 
@@ -17,7 +19,7 @@ use label::First;
 use tree::{Got, KEY_MAX, Looked, Prefixed, RuleNo, Sharing, Slot};
 
 // How what is left of a key meets the label of a node.
-#[derive(Drop)]
+#[derive(Clone, Copy)]
 pub enum Meeting {
     // The key's next byte is below the label's first.
     Before,
@@ -34,7 +36,7 @@ pub enum Meeting {
 }
 
 // Where a descent ends.
-#[derive(Drop)]
+#[derive(Clone, Copy)]
 pub enum Stop {
     // The key is empty: at the root.
     Root,
@@ -49,7 +51,7 @@ pub enum Stop {
 }
 
 // The longest stored prefix so far: its length and number.
-#[derive(Drop)]
+#[derive(Clone, Copy)]
 pub enum Best {
     None,
     At(usize, RuleNo),
@@ -57,7 +59,7 @@ pub enum Best {
 
 // Where a search came to: the slot, its parent, the bytes matched above the slot's label, and how many nodes it looked
 // at. The empty key ends at the root, which has neither parent nor bytes above: both are 0 there.
-#[derive(Drop)]
+#[derive(Clone, Copy)]
 pub struct Descent {
     pub stop: Stop,
     pub at: Slot,
@@ -70,10 +72,10 @@ pub struct Descent {
 // How the key from p on meets the label of slot c.
 fn meet(labels: &[u8], words: &[u32], c: Slot, key: &[u8], p: usize) -> Meeting
     requires { InPool words.now labels.now c.0 × (p < length key.now) }
-    ensures* { do
-      let ws = words.now
-      let bs = labels.now
-      ⌜ result ≡ meeting_of (drop p key.now) (label_of ws bs c.0) ⌝ }
+    ensures {
+      let ws = words.now in
+      let bs = labels.now in
+      result ≡ meeting_of (drop p key.now) (label_of ws bs c.0) }
 {
     match label::cmp_first_item(key[p], slots::first_at(labels, c)) {
         First::Below => return Meeting::Before,
@@ -125,10 +127,10 @@ fn landed(stop: Stop, at: Slot, parent: Slot, above: usize, best: Best, looked: 
 // are at most c.
 pub fn descend(labels: &[u8], words: &[u32], key: &[u8]) -> Descent
     requires { PoolRule words.now labels.now × (length key.now ≤ key_max) }
-    ensures* { do
-      let ws = words.now
-      let bs = labels.now
-      ⌜ ((t : Tree) → pool_tree ws bs ≡ some t → Lands t key.now result) ⌝ }
+    ensures {
+      let ws = words.now in
+      let bs = labels.now in
+      ((t : Tree) → pool_tree ws bs ≡ some t → Lands t key.now result) }
 {
     let n = slots::nodes_in(words);
     let mut best = best_at(words, Slot(0), 0, Best::None);
@@ -183,7 +185,7 @@ fn number_in(words: &[u32], at: Slot, looked: Looked) -> Got
 // `get` in a pool that has been tested, of a key that is not too long.
 pub fn get_in(labels: &[u8], words: &[u32], key: &[u8]) -> Got
     requires { PoolRule words.now labels.now × (length key.now ≤ key_max) }
-    ensures { GetAllows key.now result (before labels words) }
+    ensures { GetAllows key.now result (lent labels.now words.now) }
 {
     let d = descend(labels, words, key);
     let at = d.at;
@@ -200,7 +202,7 @@ pub fn get_in(labels: &[u8], words: &[u32], key: &[u8]) -> Got
 
 // The number at exactly the key.
 pub fn get(labels: &[u8], words: &[u32], key: &[u8]) -> Got
-    ensures { GetAllows key.now result (before labels words) }
+    ensures { GetAllows key.now result (lent labels.now words.now) }
 {
     if !pool::is_pool(labels, words) {
         return Got::NotPool;
@@ -214,7 +216,7 @@ pub fn get(labels: &[u8], words: &[u32], key: &[u8]) -> Got
 // `longest` in a pool that has been tested, of a query that is not too long.
 pub fn longest_in(labels: &[u8], words: &[u32], query: &[u8]) -> Prefixed
     requires { PoolRule words.now labels.now × (length query.now ≤ key_max) }
-    ensures { LongestAllows query.now result (before labels words) }
+    ensures { LongestAllows query.now result (lent labels.now words.now) }
 {
     let d = descend(labels, words, query);
     let looked = d.looked;
@@ -227,7 +229,7 @@ pub fn longest_in(labels: &[u8], words: &[u32], query: &[u8]) -> Prefixed
 
 // Length and number of the longest stored key that starts the query.
 pub fn longest(labels: &[u8], words: &[u32], query: &[u8]) -> Prefixed
-    ensures { LongestAllows query.now result (before labels words) }
+    ensures { LongestAllows query.now result (lent labels.now words.now) }
 {
     if !pool::is_pool(labels, words) {
         return Prefixed::NotPool;
@@ -241,7 +243,7 @@ pub fn longest(labels: &[u8], words: &[u32], query: &[u8]) -> Prefixed
 // `shared` in a pool that has been tested, of a query that is not too long.
 pub fn shared_in(labels: &[u8], words: &[u32], query: &[u8]) -> Sharing
     requires { PoolRule words.now labels.now × (length query.now ≤ key_max) }
-    ensures { SharedAllows query.now result (before labels words) }
+    ensures { SharedAllows query.now result (lent labels.now words.now) }
 {
     let d = descend(labels, words, query);
     let above = d.above;
@@ -261,7 +263,7 @@ pub fn shared_in(labels: &[u8], words: &[u32], query: &[u8]) -> Sharing
 
 // The greatest number of leading bytes that the query shares with any stored key.
 pub fn shared(labels: &[u8], words: &[u32], query: &[u8]) -> Sharing
-    ensures { SharedAllows query.now result (before labels words) }
+    ensures { SharedAllows query.now result (lent labels.now words.now) }
 {
     if !pool::is_pool(labels, words) {
         return Sharing::NotPool;

@@ -1,5 +1,7 @@
 // The slots of a pool in its two lent slices: where their fields stand. Only this crate reads and stores single words; all others
 // ask and tell by a field's name. docs/POOL.md has the layout.
+#![tactic(auto)]
+
 ghost use Rattle.std.specs.Prelude.{◌≡◌, ◌+◌, ◌≤◌, ◌<◌, length, set};
 ghost use Rattle.slots.specs.Layout.{slots_in, label_room, WordsIn, RoomIn, field_at, start_field, len_field, has_field, span_field, nodes_word, nodes_of, start_of, len_of, has_of, number_of, span_of, first_of, label_of};
 ghost use Rattle.slots.specs.Bare.{number_put};

@@ -1,11 +1,13 @@
 // Split by a prefix: the subtree of all keys that start with the prefix is carried over into a second pool, without the
 // prefix, and what is left in the first is tidied as in remove. Counterpart: `split_by_prefix` of the Rust's node.
+#![tactic(auto)]
+
 ghost use Rattle.std.specs.Prelude.{◌≡◌, ℕ, ◌+◌, ◌*◌, ◌-◌, ◌≤◌, ◌<◌, length};
 ghost use Rattle.tree.specs.Key.{key_max};
 ghost use Rattle.slots.specs.Layout.{WordsIn, start_of, len_of, span_of};
 ghost use Rattle.slots.specs.Records.{rec_at};
 ghost use Rattle.slots.specs.Put.{SlotPut};
-ghost use Rattle.pool.specs.Lent.{before, after};
+ghost use Rattle.pool.specs.Lent.{lent};
 ghost use Rattle.pool.specs.Rule.{Within, Lengths, PoolRule};
 ghost use Rattle.search.specs.declared.Stop.{Stop};
 ghost use Rattle.split.specs.Lift.{carried, lowered, topped, Liftable, Lifted, Rooted, Detached, DetachedBelow};
@@ -31,13 +33,13 @@ fn carry(
 )
     requires words_in { WordsIn words.now from.0 × (start < 4294967296) × (length label.now ≤ 255) }
     requires within { Within words2.old labels2.old (to.0 + 1) }
-    ensures* { do
-      let ws = words.now
-      let ws2 = words2.old
-      let bs2 = labels2.old
-      let vs2 = words2.new
-      let cs2 = labels2.new
-      ⌜ SlotPut ws2 bs2 vs2 cs2 to.0 (carried ws from.0 start label.now) ⌝ }
+    ensures {
+      let ws = words.now in
+      let ws2 = words2.old in
+      let bs2 = labels2.old in
+      let vs2 = words2.new in
+      let cs2 = labels2.new in
+      SlotPut ws2 bs2 vs2 cs2 to.0 (carried ws from.0 start label.now) }
 {
     let head = Head {
         start: start as u32,
@@ -59,18 +61,18 @@ fn lift_slot(
     words2: &mut [u32],
     to: Slot,
 )
-    requires* fact { do
-      let ws = words.now
-      ⌜ Within ws labels.now (from.0 + 1) × (base ≤ start_of ws from.0) × (len_of ws from.0 ≤ 255) ⌝ }
+    requires fact {
+      let ws = words.now in
+      Within ws labels.now (from.0 + 1) × (base ≤ start_of ws from.0) × (len_of ws from.0 ≤ 255) }
     requires within { Within words2.old labels2.old (to.0 + 1) }
-    ensures* { do
-      let ws = words.now
-      let bs = labels.now
-      let ws2 = words2.old
-      let bs2 = labels2.old
-      let vs2 = words2.new
-      let cs2 = labels2.new
-      ⌜ SlotPut ws2 bs2 vs2 cs2 to.0 (lowered base (rec_at ws bs from.0)) ⌝ }
+    ensures {
+      let ws = words.now in
+      let bs = labels.now in
+      let ws2 = words2.old in
+      let bs2 = labels2.old in
+      let vs2 = words2.new in
+      let cs2 = labels2.new in
+      SlotPut ws2 bs2 vs2 cs2 to.0 (lowered base (rec_at ws bs from.0)) }
 {
     let start = slots::start_at(words, from) - base;
     let label = slots::label_at(labels, words, from);
@@ -90,14 +92,14 @@ fn lift(
 )
     requires { Liftable words.now labels.now from.0 count base
         × Within words2.old labels2.old (to.0 + count) }
-    ensures* { do
-      let ws = words.now
-      let bs = labels.now
-      let ws2 = words2.old
-      let bs2 = labels2.old
-      let vs2 = words2.new
-      let cs2 = labels2.new
-      ⌜ Lifted ws bs ws2 bs2 vs2 cs2 from.0 to.0 count base ⌝ }
+    ensures {
+      let ws = words.now in
+      let bs = labels.now in
+      let ws2 = words2.old in
+      let bs2 = labels2.old in
+      let vs2 = words2.new in
+      let cs2 = labels2.new in
+      Lifted ws bs ws2 bs2 vs2 cs2 from.0 to.0 count base }
 {
     let from = from.0;
     let to = to.0;
@@ -134,17 +136,17 @@ fn put_root(words: &mut [u32], has: u32, number: RuleNo, nodes: usize)
 
 // Carries the subtree of a slot over, with the slot as the root.
 fn detach_node(labels: &[u8], words: &[u32], at: Slot, labels2: &mut [u8], words2: &mut [u32])
-    requires* { do
-      let ws = words.now
-      ⌜ Detachable ws labels.now at.0 × Within words2.old labels2.old (span_of ws at.0) ⌝ }
-    ensures* { do
-      let ws = words.now
-      let bs = labels.now
-      let ws2 = words2.old
-      let bs2 = labels2.old
-      let vs2 = words2.new
-      let cs2 = labels2.new
-      ⌜ Detached ws bs ws2 bs2 vs2 cs2 at.0 (start_of ws at.0 + len_of ws at.0) ⌝ }
+    requires {
+      let ws = words.now in
+      Detachable ws labels.now at.0 × Within words2.old labels2.old (span_of ws at.0) }
+    ensures {
+      let ws = words.now in
+      let bs = labels.now in
+      let ws2 = words2.old in
+      let bs2 = labels2.old in
+      let vs2 = words2.new in
+      let cs2 = labels2.new in
+      Detached ws bs ws2 bs2 vs2 cs2 at.0 (start_of ws at.0 + len_of ws at.0) }
 {
     let span = slots::span_at(words, at);
     let base = slots::start_at(words, at) + slots::len_at(words, at);
@@ -172,18 +174,18 @@ fn top_slot(
     labels2: &mut [u8],
     words2: &mut [u32],
 )
-    requires* { do
-      let ws = words.now
-      let i = at.0
-      ⌜ Within ws labels.now (i + 1) × (m ≤ len_of ws i) × (len_of ws i ≤ 255) × Within words2.old labels2.old 2 ⌝ }
-    ensures* { do
-      let ws = words.now
-      let bs = labels.now
-      let ws2 = words2.old
-      let bs2 = labels2.old
-      let vs2 = words2.new
-      let cs2 = labels2.new
-      ⌜ SlotPut ws2 bs2 vs2 cs2 1 (topped m (rec_at ws bs at.0)) ⌝ }
+    requires {
+      let ws = words.now in
+      let i = at.0 in
+      Within ws labels.now (i + 1) × (m ≤ len_of ws i) × (len_of ws i ≤ 255) × Within words2.old labels2.old 2 }
+    ensures {
+      let ws = words.now in
+      let bs = labels.now in
+      let ws2 = words2.old in
+      let bs2 = labels2.old in
+      let vs2 = words2.new in
+      let cs2 = labels2.new in
+      SlotPut ws2 bs2 vs2 cs2 1 (topped m (rec_at ws bs at.0)) }
 {
     let label = slots::label_at(labels, words, at);
     carry(words, at, 0, &label[m..], labels2, words2, Slot(1));
@@ -198,18 +200,18 @@ fn detach_label(
     labels2: &mut [u8],
     words2: &mut [u32],
 )
-    requires* { do
-      let ws = words.now
-      let i = at.0
-      ⌜ Detachable ws labels.now i × (m ≤ len_of ws i) × Within words2.old labels2.old (span_of ws i + 1) ⌝ }
-    ensures* { do
-      let ws = words.now
-      let bs = labels.now
-      let ws2 = words2.old
-      let bs2 = labels2.old
-      let vs2 = words2.new
-      let cs2 = labels2.new
-      ⌜ DetachedBelow ws bs ws2 bs2 vs2 cs2 at.0 m (start_of ws at.0 + m) ⌝ }
+    requires {
+      let ws = words.now in
+      let i = at.0 in
+      Detachable ws labels.now i × (m ≤ len_of ws i) × Within words2.old labels2.old (span_of ws i + 1) }
+    ensures {
+      let ws = words.now in
+      let bs = labels.now in
+      let ws2 = words2.old in
+      let bs2 = labels2.old in
+      let vs2 = words2.new in
+      let cs2 = labels2.new in
+      DetachedBelow ws bs ws2 bs2 vs2 cs2 at.0 m (start_of ws at.0 + m) }
 {
     let span = slots::span_at(words, at);
     let base = slots::start_at(words, at) + m;
@@ -231,12 +233,12 @@ fn detach_label(
 // Takes the subtree of a slot out, and tidies from its parent up.
 fn leave(labels: &mut [u8], words: &mut [u32], at: Slot, parent: Slot)
     requires { Leaving words.old labels.old at.0 parent.0 }
-    ensures* { do
-      let ws = words.old
-      let bs = labels.old
-      let vs = words.new
-      let cs = labels.new
-      ⌜ ((x : Leaving ws bs at.0 parent.0) → Tidied ws bs vs cs x.left) ⌝ }
+    ensures {
+      let ws = words.old in
+      let bs = labels.old in
+      let vs = words.new in
+      let cs = labels.new in
+      ((x : Leaving ws bs at.0 parent.0) → Tidied ws bs vs cs x.left) }
 {
     let end = at.0 + slots::span_at(words, at);
     splice::alter::open_gaps(words, at, Slot(end));
@@ -252,11 +254,11 @@ fn split_root(
     room: usize,
 ) -> Divided
     requires { Landed words.old labels.old Stop.Root 0 0 × Lengths words2.old labels2.old room }
-    ensures* { do
-      let was = before labels words
-      let was₂ = before labels2 words2
-      ⌜ ((x : Landed was.words was.labels Stop.Root 0 0)
-          → SplitAllows x.prefix result was was₂ (after labels words) (after labels2 words2)) ⌝ }
+    ensures {
+      let was = lent labels.old words.old in
+      let was₂ = lent labels2.old words2.old in
+      ((x : Landed was.words was.labels Stop.Root 0 0)
+          → SplitAllows x.prefix result was was₂ (lent labels.new words.new) (lent labels2.new words2.new)) }
 {
     if slots::nodes_in(words) > room {
         return Divided::NoRoom;
@@ -278,11 +280,11 @@ fn split_node(
 ) -> Divided
     requires { Landed words.old labels.old Stop.Same at.0 parent.0
         × Lengths words2.old labels2.old room }
-    ensures* { do
-      let was = before labels words
-      let was₂ = before labels2 words2
-      ⌜ ((x : Landed was.words was.labels Stop.Same at.0 parent.0)
-          → SplitAllows x.prefix result was was₂ (after labels words) (after labels2 words2)) ⌝ }
+    ensures {
+      let was = lent labels.old words.old in
+      let was₂ = lent labels2.old words2.old in
+      ((x : Landed was.words was.labels Stop.Same at.0 parent.0)
+          → SplitAllows x.prefix result was was₂ (lent labels.new words.new) (lent labels2.new words2.new)) }
 {
     if slots::span_at(words, at) > room {
         return Divided::NoRoom;
@@ -305,11 +307,11 @@ fn split_label(
 ) -> Divided
     requires { Landed words.old labels.old (Stop.Inside m) at.0 parent.0
         × Lengths words2.old labels2.old room }
-    ensures* { do
-      let was = before labels words
-      let was₂ = before labels2 words2
-      ⌜ ((x : Landed was.words was.labels (Stop.Inside m) at.0 parent.0)
-          → SplitAllows x.prefix result was was₂ (after labels words) (after labels2 words2)) ⌝ }
+    ensures {
+      let was = lent labels.old words.old in
+      let was₂ = lent labels2.old words2.old in
+      ((x : Landed was.words was.labels (Stop.Inside m) at.0 parent.0)
+          → SplitAllows x.prefix result was was₂ (lent labels.new words.new) (lent labels2.new words2.new)) }
 {
     if slots::span_at(words, at) >= room {
         return Divided::NoRoom;
@@ -330,10 +332,10 @@ fn split_in(
 ) -> Divided
     requires { PoolRule words.old labels.old × (length prefix.now ≤ key_max)
         × Lengths words2.old labels2.old room }
-    ensures* { do
-      let was = before labels words
-      let was₂ = before labels2 words2
-      ⌜ SplitAllows prefix.now result was was₂ (after labels words) (after labels2 words2) ⌝ }
+    ensures {
+      let was = lent labels.old words.old in
+      let was₂ = lent labels2.old words2.old in
+      SplitAllows prefix.now result was was₂ (lent labels.new words.new) (lent labels2.new words2.new) }
 {
     let d = search::descend(labels, words, prefix);
     let at = d.at;
@@ -356,10 +358,10 @@ pub fn split(
     labels2: &mut [u8],
     words2: &mut [u32],
 ) -> Divided
-    ensures* { do
-      let was = before labels words
-      let was₂ = before labels2 words2
-      ⌜ SplitAllows prefix.now result was was₂ (after labels words) (after labels2 words2) ⌝ }
+    ensures {
+      let was = lent labels.old words.old in
+      let was₂ = lent labels2.old words2.old in
+      SplitAllows prefix.now result was was₂ (lent labels.new words.new) (lent labels2.new words2.new) }
 {
     if !pool::is_pool(labels, words) {
         return Divided::NotPool;

@@ -1,5 +1,7 @@
 // What each call answers, as a line of text: document 01's number first, and behind it what is told besides; at the
 // end, of a search, `/` and how many nodes it looked at.
+#![tactic(auto)]
+
 use tree::{
     Counted, Divided, Emptied, Got, Inserted, Loaded, Looked, Prefixed, RuleNo, Sharing, Stepped,
     Written,

@@ -175,7 +175,7 @@ at_nowhere l = fun_ext λ q. go (strip l q)
 
 pub look_nil : look none (find_f nil) ≡ nowhere
 unfolding look find_f nowhere
-look_nil = fun_ext λ q. elim q [ [] ↦ refl | c ∷ r ↦ refl ]
+look_nil = fun_ext λ q. elim q as (λ k. look none (find_f nil) k ≡ none) [ [] ↦ refl | c ∷ r ↦ refl ]
 
 -- An update in plain words: at its key, and at any other
 pub upd_at : (k : Key) (v : Num) (m : Key → Num) → upd k v m k ≡ v

@@ -1,4 +1,6 @@
 // The four kinds of number that must not be mixed up, the sizes of document 01, and one enum for each kind of answer.
+#![tactic(auto)]
+
 ghost use Rattle.std.specs.Prelude.{◌≡◌, get_or};
 ghost use Rattle.tree.specs.Told.{emptied_told, got_told, inserted_told, prefixed_told, sharing_told, stepped_told, divided_told, counted_told, written_told, loaded_told};
 
@@ -12,23 +14,23 @@ pub const KEY_MAX: usize = 4096;
 pub const SLOTS_MAX: usize = 16384;
 
 // The place of a node in a pool.
-#[derive(Drop)]
+#[derive(Clone, Copy)]
 pub struct Slot(pub usize);
 
 // How far a node is below the root, which is at level 0.
-#[derive(Drop)]
+#[derive(Clone, Copy)]
 pub struct Level(pub usize);
 
 // A stored number: any 64-bit value.
-#[derive(Drop)]
+#[derive(Clone, Copy)]
 pub struct RuleNo(pub u64);
 
 // How many nodes a search looked at.
-#[derive(Drop)]
+#[derive(Clone, Copy)]
 pub struct Looked(pub usize);
 
 // What make and clear answer.
-#[derive(Drop)]
+#[derive(Clone, Copy)]
 pub enum Emptied {
     Done,
     NotPool,
@@ -36,7 +38,7 @@ pub enum Emptied {
 
 // What get and remove answer: the number at the key, the old one for remove. A search tells last how many nodes it
 // looked at, where it found what it sought and where it did not.
-#[derive(Drop)]
+#[derive(Clone, Copy)]
 pub enum Got {
     Number(RuleNo, Looked),
     NotPool,
@@ -45,7 +47,7 @@ pub enum Got {
 }
 
 // What insert answers. Its search is that in the tree as it was before.
-#[derive(Drop)]
+#[derive(Clone, Copy)]
 pub enum Inserted {
     New(Looked),
     Replaced(RuleNo, Looked),
@@ -55,7 +57,7 @@ pub enum Inserted {
 }
 
 // What the longest stored prefix answers: its length and number.
-#[derive(Drop)]
+#[derive(Clone, Copy)]
 pub enum Prefixed {
     Longest(usize, RuleNo, Looked),
     NotPool,
@@ -64,7 +66,7 @@ pub enum Prefixed {
 }
 
 // What the longest shared length answers.
-#[derive(Drop)]
+#[derive(Clone, Copy)]
 pub enum Sharing {
     Length(usize, Looked),
     NotPool,
@@ -72,7 +74,7 @@ pub enum Sharing {
 }
 
 // What a walk's step answers: the key's length and number, or the length that the output lacks.
-#[derive(Drop)]
+#[derive(Clone, Copy)]
 pub enum Stepped {
     Key(usize, RuleNo),
     NotPool,
@@ -82,7 +84,7 @@ pub enum Stepped {
 }
 
 // What split answers.
-#[derive(Drop)]
+#[derive(Clone, Copy)]
 pub enum Divided {
     Done,
     NotPool,
@@ -92,14 +94,14 @@ pub enum Divided {
 }
 
 // What counts answers: keys and nodes.
-#[derive(Drop)]
+#[derive(Clone, Copy)]
 pub enum Counted {
     Counts(usize, usize),
     NotPool,
 }
 
 // What the writer answers: the lengths of tree bytes and numbers, written or needed.
-#[derive(Drop)]
+#[derive(Clone, Copy)]
 pub enum Written {
     Lengths(usize, usize),
     NotPool,
@@ -107,7 +109,7 @@ pub enum Written {
 }
 
 // What the reader answers: most refusals carry an offset into the image.
-#[derive(Drop)]
+#[derive(Clone, Copy)]
 pub enum Loaded {
     Done,
     NotPool,

@@ -1,12 +1,14 @@
 // The walk under a prefix: a value that carries its prefix and the last key given, and is handed on by each step. A step is
 // one pass over the slots in use, which stand in the order of their keys. Counterparts in the Rust: `Node::iter`,
 // `iter_descendant` and `Iter::next`, whose stack of nodes gives way to the last key.
+#![tactic(auto)]
+
 ghost use Rattle.std.specs.Prelude.{◌≡◌, ◌+◌, ◌*◌, ◌≤◌, length};
 ghost use Rattle.std.proofs.Math.Option.{some};
 ghost use Rattle.tree.specs.Key.{key_max, pick};
 ghost use Rattle.tree.specs.Map.{past};
 ghost use Rattle.slots.specs.Layout.{WordsIn, has_of};
-ghost use Rattle.pool.specs.Lent.{before};
+ghost use Rattle.pool.specs.Lent.{lent};
 ghost use Rattle.pool.specs.Rule.{PoolRule};
 ghost use Rattle.walk.specs.Due.{last_if, due, GivesKey, LayRoom, Laid, Sought};
 ghost use Rattle.walk.specs.Walks.{handed_on, Begins, HandedIn, StepAllows};
@@ -31,7 +33,7 @@ pub struct Step {
 }
 
 // What looking for the next key finds: its length and number, its bytes being at the front of the path.
-#[derive(Drop)]
+#[derive(Clone, Copy)]
 pub enum Found {
     Key(usize, RuleNo),
     Nothing,
@@ -67,10 +69,10 @@ fn is_due(key: &[u8], prefix: &[u8], last: &[u8], begun: bool) -> bool
 // Lays the label of a slot behind the bytes above it in the path, and gives the length of the slot's key.
 fn lay(labels: &[u8], words: &[u32], at: Slot, path: &mut [u8]) -> usize
     requires { LayRoom words.now labels.now path.old at.0 }
-    ensures* { do
-      let ws = words.now
-      let bs = labels.now
-      ⌜ Laid ws bs path.old at.0 path.new result ⌝ }
+    ensures {
+      let ws = words.now in
+      let bs = labels.now in
+      Laid ws bs path.old at.0 path.new result }
 {
     let from = slots::start_at(words, at);
     let to = from + slots::len_at(words, at);
@@ -100,10 +102,10 @@ fn seek(
     path: &mut [u8],
 ) -> Found
     requires { PoolRule words.now labels.now × (length path.old ≡ key_max) }
-    ensures* { do
-      let ws = words.now
-      let bs = labels.now
-      ⌜ Sought ws bs prefix.now (last_if begun last.now) result path.new ⌝ }
+    ensures {
+      let ws = words.now in
+      let bs = labels.now in
+      Sought ws bs prefix.now (last_if begun last.now) result path.new }
 {
     let n = slots::nodes_in(words);
     let mut i: usize = 0;
@@ -194,7 +196,7 @@ impl Walk {
     // The next key under the prefix, at the front of the output, with its length and number; and the walk handed on.
     // Counterpart: a step of the iterator over `iter_descendant`.
     pub fn step(self, labels: &[u8], words: &[u32], out: &mut [u8]) -> Step
-        ensures { StepAllows self result (before labels words) out.old out.new }
+        ensures { StepAllows self result (lent labels.now words.now) out.old out.new }
     {
         if !pool::is_pool(labels, words) {
             return refused(Stepped::NotPool, self);

@@ -1,0 +1,15 @@
+-- `label::copy` meets its contract: the places passed are the source's. Assumes nothing.
+use Prim.Native.Nat.{◌≤◌, ◌-◌}
+use native.Mathlib.Omega.{arith}
+use lib.ListN.{length}
+use Rattle.label.proofs.Moves.{Filled, fill_none, fill_step, fill_done}
+use Rattle.label.proofs.copy.Goals as goal
+
+pub loop-i-preserved : goal.loop-i-preserved
+loop-i-preserved c = (omega arith, fill_step _ _ _ (omega arith) c.loop-i.invariant.1)
+
+pub returns : goal.returns
+returns c = fill_done _ _ _ (omega arith) c.loop-i.invariant.1
+
+pub loop-i-init : goal.loop-i-init
+loop-i-init c = (omega arith, fill_none _ _ (omega arith))

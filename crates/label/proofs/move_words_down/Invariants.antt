@@ -1,0 +1,11 @@
+-- `label::move_words_down` meets its contract, turn by turn. Assumes nothing.
+use Prim.Native.Nat.{◌-◌}
+use native.Mathlib.Omega.{arith}
+use Rattle.label.proofs.Moves.{Sinking, down-none, down_step, down-done}
+use Rattle.label.proofs.move_words_down.Given as goal
+
+abbrev pub invariant-loop-i : goal.invariant-loop-i
+invariant-loop-i l = Sinking l.initial.w l.w l.from l.to l.k l.i
+
+abbrev pub decreases-loop-i : goal.decreases-loop-i
+decreases-loop-i l = l.to - l.i

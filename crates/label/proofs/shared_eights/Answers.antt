@@ -1,0 +1,26 @@
+-- `label::shared_eights` meets its contract: each step passes eight shared bytes, and fewer are left. Assumes nothing.
+use mathlib.Core.Path.{◌≡◌, sym, ◌∙◌}
+use Prim.Native.Nat.{◌≤◌, ◌-◌, ◌%◌}
+use native.Mathlib.Omega.{arith}
+use borrow.Author.Rules.{rules}
+use borrow.Author.Tests.{not-true, not-false}
+use Rattle.tree.specs.Key.{common}
+use Rattle.label.proofs.Eights.{common-within, step_on, step_off}
+use Rattle.label.proofs.shared_eights.Goals as goal
+
+pub returns-then-not-eight_same : goal.returns-then-not-eight_same
+returns-then-not-eight_same c =
+    let lent = c.args in
+    let off = sym c.eight_same.ensures ∙ c.if-not-eight_same.true in
+    omega (arith, step_off lent.k.now lent.l.now c.loop-i.i (omega arith) 8 off)
+
+pub loop-i-preserved : goal.loop-i-preserved
+loop-i-preserved c =
+    let lent = c.args in
+    let on = sym c.eight_same.ensures ∙ c.if-not-eight_same.false in
+    omega (arith, step_on lent.k.now lent.l.now c.loop-i.i (omega arith) 8 on)
+
+pub returns : goal.returns
+returns c =
+    let lent = c.args in
+    omega (arith, common-within lent.k.now lent.l.now)

@@ -1,0 +1,15 @@
+-- `label::shared_eights` meets its contract: each step passes eight shared bytes, and fewer are left. Assumes nothing.
+use mathlib.Core.Path.{◌≡◌, sym, ◌∙◌}
+use Prim.Native.Nat.{◌≤◌, ◌-◌, ◌%◌}
+use native.Mathlib.Omega.{arith}
+use borrow.Author.Rules.{rules}
+use borrow.Author.Tests.{not-true, not-false}
+use Rattle.tree.specs.Key.{common}
+use Rattle.label.proofs.Eights.{common-within, step_on, step_off}
+use Rattle.label.proofs.shared_eights.Given as goal
+
+abbrev pub invariant-loop-i : goal.invariant-loop-i
+invariant-loop-i l = (l.i ≤ l.most) × (l.i ≤ common l.k l.l) × (l.i % 8 ≡ 0)
+
+abbrev pub decreases-loop-i : goal.decreases-loop-i
+decreases-loop-i l = l.most - l.i

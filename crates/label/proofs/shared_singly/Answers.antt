@@ -1,0 +1,28 @@
+-- `label::shared_singly` meets its contract: every byte passed is shared. Assumes nothing.
+use Prim.Native.Nat.{◌≤◌, ◌-◌}
+use native.Mathlib.Omega.{arith}
+use borrow.Author.Rules.{rules}
+use Rattle.tree.specs.Key.{common}
+use Rattle.label.proofs.Eights.{common-within, common-next, common-at}
+use Rattle.label.proofs.shared_singly.Goals as goal
+
+pub loop-i-init : goal.loop-i-init
+loop-i-init c =
+    let lent = c.args in
+    omega (arith, common-within lent.k.now lent.l.now)
+
+pub returns-then-k-i : goal.returns-then-k-i
+returns-then-k-i c =
+    let lent = c.args in
+    common-at lent.k.now lent.l.now c.loop-i.i (omega arith) (omega arith) (omega arith) c.if-k-i.true
+
+pub loop-i-preserved : goal.loop-i-preserved
+loop-i-preserved c =
+    let k = c.args.k.now in
+    let l = c.args.l.now in
+    omega (arith, common-next k l c.loop-i.i (omega arith) (omega arith) (omega arith) c.if-k-i.false)
+
+pub returns : goal.returns
+returns c =
+    let lent = c.args in
+    omega (arith, common-within lent.k.now lent.l.now)

@@ -1,0 +1,16 @@
+-- `pool::is_pool` meets its contract. Assumes nothing.
+use mathlib.Core.Path.{sym, ◌∙◌}
+use Rattle.tree.proofs.Order.{none-some}
+use Rattle.pool.proofs.Test.{says_no}
+use Rattle.pool.proofs.Decode.{lengths-right}
+use Rattle.pool.proofs.Decode.{slots_of_lem as right_slots}
+use borrow.Author.Rules.{rules}
+use Rattle.pool.proofs.is_pool.Goals as goal
+
+pub tree_ok-requires : goal.tree_ok-requires
+tree_ok-requires c = lengths-right _ _ _ (sym (rw c.in-Slots.is at c.slots_of.ensures))
+
+pub returns-in-Wrong : goal.returns-in-Wrong
+returns-in-Wrong c =
+    let e = rw c.in-Wrong.is at c.slots_of.ensures in
+    says_no (λ r. none-some r.slots (e ∙ right_slots _ _ _ r.lengths))

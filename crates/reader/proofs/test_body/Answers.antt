@@ -1,0 +1,33 @@
+-- `reader::test_body` meets its contract: the tests before each return have passed. Assumes nothing.
+use mathlib.Core.Path.{sym}
+use native.Mathlib.Omega.{arith}
+use Rattle.tree.specs.Key.{key_max}
+use Rattle.tree.proofs.Judge.{passed}
+use Rattle.reader.proofs.Tests.{broken-at, below-is}
+use borrow.Author.Rules.{rules}
+use Rattle.reader.proofs.test_body.Goals as goal
+
+pub returns-then-wide-least : goal.returns-then-wide-least
+returns-then-wide-least c = broken-at _ 0 tt (omega arith)
+
+pub returns-then-path-wide-gt-KEY_MAX : goal.returns-then-path-wide-gt-KEY_MAX
+unfolding key_max
+returns-then-path-wide-gt-KEY_MAX c = broken-at _ 1 (omega arith) (omega arith)
+
+pub returns-then-has-has_child-lt1 : goal.returns-then-has-has_child-lt1
+unfolding key_max
+returns-then-has-has_child-lt1 c =
+    let d = below-is c.args.level.0 (omega arith) in
+    broken-at _ 2 (omega arith) (omega arith)
+
+pub returns-then-from-has : goal.returns-then-from-has
+unfolding key_max
+returns-then-from-has c =
+    let d = below-is c.args.level.0 (omega arith) in
+    broken-at _ 3 (omega arith) (omega arith)
+
+pub returns : goal.returns
+unfolding key_max
+returns c =
+    let d = below-is c.args.level.0 (omega arith) in
+    sym (passed _ (omega arith))

@@ -1,0 +1,60 @@
+-- `reader::test_root` meets its contract: the tests before each return have passed, and those that are not made hold of any
+use mathlib.Core.List.{List}
+use mathlib.Core.Path.{refl, sym, ◌∙◌}
+use native.Mathlib.Omega.{arith}
+use lib.ListN.{take}
+use borrow.Author.Tests.{not-true, not-false}
+use Rattle.tree.specs.Key.{key_max}
+use Rattle.tree.specs.Reader.{Rule}
+use Rattle.tree.proofs.Judge.{All, passed}
+use Rattle.flags.proofs.Judged.{below_root}
+use Rattle.reader.specs.Check.{count_rules}
+use Rattle.reader.proofs.Tests.{snoc, broken-at, all_sound, flags-broken, record_stop}
+use borrow.Author.Rules.{rules}
+use Rattle.reader.proofs.test_root.Goals as goal
+
+-- root. Assumes nothing.
+abbrev table : goal.Start → List Rule
+table c = count_rules c.args.tree.now c.args.numbers 0 0 0 0
+
+-- The tests passed so far
+past_flags : (c : goal.Else-not-flags_sound) → All (take 6 (table c.before.before.before.before.before))
+past_flags c = (omega arith, all_sound _ (sym c.flags_sound.ensures ∙ c.if-not-flags_sound.false))
+
+past_level : (c : goal.Else-wide-ne0) → All (take 7 (table c.before.before.before.before.before.before.before.before.before.before))
+past_level c = snoc (table c.before.before.before.before.before.before.before.before.before.before) 6 (past_flags c.before.before.before.before.before) (omega arith)
+
+past-length : (c : goal.Else-tree-gt0) → All (take 13 (table c.before.before.before.before.before.before.before.before.before.before.before.before))
+unfolding key_max
+past-length c =
+    let r = below_root 0 refl in
+    let rules = table c.before.before.before.before.before.before.before.before.before.before.before.before in
+    let at_most = snoc rules 8 (snoc rules 7 (past_level c.before.before) (omega arith)) (omega arith) in
+    snoc rules 12 (snoc rules 11 (snoc rules 10 (snoc rules 9 at_most (omega arith)) (omega arith)) (omega arith)) (omega arith)
+
+pub returns-then-tree-lt4 : goal.returns-then-tree-lt4
+returns-then-tree-lt4 c = broken-at _ 0 tt (omega arith)
+
+pub returns-then-not-flags_sound : goal.returns-then-not-flags_sound
+returns-then-not-flags_sound c =
+    let a = c.args in
+    record_stop a.tree.now a.numbers 0 0 0 0
+    (sym (flags-broken a.tree.now 0 0 0 0 0 (omega arith) (sym c.flags_sound.ensures ∙ c.if-not-flags_sound.true)))
+
+pub returns-then-wide-ne0 : goal.returns-then-wide-ne0
+returns-then-wide-ne0 c =
+    broken-at _ 6 (past_flags (goal.at.returns-then-wide-ne0 c).Else-not-flags_sound) (λ e. c.if-wide-ne0.true (omega arith))
+
+pub returns-then-tree-gt0 : goal.returns-then-tree-gt0
+returns-then-tree-gt0 c =
+    let r = below_root 0 refl in
+    let rules = table c.before.before.before.before.before.before.before.before.before.before.before.before in
+    broken-at _ 8 (snoc rules 7 (past_level (goal.at.returns-then-tree-gt0 c).Else-wide-ne0) (omega arith)) (omega arith)
+
+pub returns-then-numbers-has_number : goal.returns-then-numbers-has_number
+returns-then-numbers-has_number c =
+    broken-at _ 13 (past-length (goal.at.returns-then-numbers-has_number c).Else-tree-gt0) (omega arith)
+
+pub returns : goal.returns
+returns c =
+    sym (passed _ (snoc (table c.before.before.before.before.before.before.before.before.before.before.before.before.before.before.before) 13 (past-length (goal.at.returns c).Else-tree-gt0) (omega arith)))

@@ -1,0 +1,16 @@
+-- `splice::alter::open_gaps` meets its contract: the slots passed are gaps. Assumes nothing.
+use mathlib.Core.Path.{◌≡◌, refl}
+use mathlib.Core.List.{List}
+use Prim.Native.Nat.{ℕ, ◌*◌, ◌≤◌, ◌-◌}
+use native.Mathlib.Omega.{arith}
+use lib.ListN.{length}
+use Rattle.splice.specs.Altered.{Emptied}
+use Rattle.splice.proofs.Altered.{gaps-none, gaps-more, gaps-done}
+use Rattle.slots.specs.Layout.{bytes_for}
+use Rattle.splice.proofs.alter.open_gaps.Given as goal
+
+abbrev pub invariant-loop-i : goal.invariant-loop-i
+invariant-loop-i l = (l.initial.i ≤ l.i) × (l.i ≤ l.end) × (length l.words ≡ length l.initial.words) × ((bs : List ℕ) → bytes_for l.end ≤ length bs → Emptied l.initial.words bs l.words (l.initial.i) l.i)
+
+abbrev pub decreases-loop-i : goal.decreases-loop-i
+decreases-loop-i l = l.end - l.i

@@ -1,0 +1,11 @@
+-- `splice::close_gaps` meets its contract: the slots passed stand close together. Assumes nothing.
+use Prim.Native.Nat.{◌≤◌, ◌-◌}
+use native.Mathlib.Omega.{arith}
+use Rattle.splice.proofs.Gaps.{Sweeping, sweep_none, sweep_on, sweep_done}
+use Rattle.splice.proofs.close_gaps.Given as goal
+
+abbrev pub invariant-loop-i : goal.invariant-loop-i
+invariant-loop-i l = (l.i ≤ l.n) × Sweeping l.initial.words l.initial.labels l.words l.labels l.i l.to.0
+
+abbrev pub decreases-loop-i : goal.decreases-loop-i
+decreases-loop-i l = l.n - l.i

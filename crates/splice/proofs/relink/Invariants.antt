@@ -1,0 +1,11 @@
+-- `splice::relink` meets its contract: the spans of the slots passed are right. Assumes nothing.
+use Prim.Native.Nat.{◌≤◌}
+use native.Mathlib.Omega.{arith}
+use Rattle.splice.proofs.Reach.{Linking, linking_none, linking_step, linking_done}
+use Rattle.splice.proofs.relink.Given as goal
+
+abbrev pub invariant-loop-i : goal.invariant-loop-i
+invariant-loop-i l = (l.i ≤ l.n) × Linking l.initial.words l.words l.i l.n
+
+abbrev pub decreases-loop-i : goal.decreases-loop-i
+decreases-loop-i l = l.i

@@ -1,0 +1,9 @@
+-- `split::put_root` meets its contract. Assumes nothing.
+use mathlib.Core.Path.{refl}
+use native.Mathlib.Omega.{arith}
+use Rattle.split.proofs.Lifts.{rooted}
+use borrow.Author.Rules.{rules}
+use Rattle.split.proofs.put_root.Goals as goal
+
+pub returns : goal.returns
+returns c = rooted _ _ _ _ _ _ _ (omega arith) refl refl refl refl refl c.put_words.ensures c.set_nodes.ensures

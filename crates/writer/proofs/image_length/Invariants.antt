@@ -1,0 +1,13 @@
+-- `writer::image_length` meets its contract: the bytes counted are those of the slots passed. Assumes nothing.
+use mathlib.Core.Path.{◌≡◌, ap, ◌∙◌}
+use Prim.Native.Nat.{◌≤◌, ◌-◌, ◌*◌}
+use native.Mathlib.Omega.{arith}
+use Rattle.writer.specs.Parts.{record_sum}
+use Rattle.writer.proofs.Totals.{sum_more}
+use Rattle.writer.proofs.image_length.Given as goal
+
+abbrev pub invariant-loop-i : goal.invariant-loop-i
+invariant-loop-i l = (l.i ≤ l.n) × (l.sum ≡ record_sum l.words l.i) × (l.sum ≤ 4294967300 * l.i)
+
+abbrev pub decreases-loop-i : goal.decreases-loop-i
+decreases-loop-i l = l.n - l.i
