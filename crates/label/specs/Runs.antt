@@ -1,6 +1,6 @@
 -- Bytes as a number and first bytes as an order; what the moves of runs leave, place by place.
-use Rattle.std.specs.Prelude.{◌≡◌, List, length, get_or}
-use Prim.Native.Nat.{ℕ, ◌+◌, ◌*◌, ◌-◌, ◌≤◌, ◌<◌, Ordering}
+use Rattle.std.specs.Prelude.{◌≡◌, List, [], ◌∷◌, length, get_or, cond, nat_eq}
+use Prim.Native.Nat.{ℕ, suc, ◌+◌, ◌*◌, ◌-◌, ◌≤◌, ◌<◌, Ordering}
 use Rattle.label.specs.declared.First.{First}
 
 -- a first byte's answer as an order
@@ -15,6 +15,11 @@ four_at b i = get_or b i 0 + 256 * (get_or b (i + 1) 0 + 256 * (get_or b (i + 2)
 
 abbrev pub eight_at : List ℕ → ℕ → ℕ
 eight_at b i = four_at b i + 4294967296 * four_at b (i + 4)
+
+-- where the first b of a run stands, or the run's length where none does
+unfoldable pub index_of : ℕ → List ℕ → ℕ
+index_of b [] = 0
+index_of b (x ∷ s) = cond (nat_eq x b) 0 (suc (index_of b s))
 
 -- vs is ws with the places from .. to also standing k places higher; what is not written over stays.
 pub record MovedUp (ws vs : List ℕ) (from to k : ℕ) : Type 0 where

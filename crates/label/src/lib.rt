@@ -1,10 +1,10 @@
 // Runs of bytes and words: what the store does with labels, keys and whole slots, a loop of its own each.
 #![tactic(auto)]
 
-ghost use Rattle.std.specs.Prelude.{◌≡◌, leb, length, drop};
+ghost use Rattle.std.specs.Prelude.{◌≡◌, leb, length, slice_range, drop};
 ghost use Prim.Native.Nat.{◌+◌, ◌*◌, ◌/◌, ◌≤◌, ◌<◌, min, compare};
 ghost use Rattle.tree.specs.Key.{common};
-ghost use Rattle.label.specs.Runs.{order_of, four_at, eight_at, MovedUp, MovedDown};
+ghost use Rattle.label.specs.Runs.{order_of, four_at, eight_at, index_of, MovedUp, MovedDown};
 
 // How the first byte of a key stands to the first byte of a label.
 #[derive(Clone, Copy)]
@@ -131,6 +131,21 @@ pub fn cmp_first_item(key: u8, label: u8) -> First
         return First::Above;
     }
     First::Same
+}
+
+// Where the first b stands among the places `from` .. `to`, or `to` where none does.
+pub fn find(s: &[u8], from: usize, to: usize, b: u8) -> usize
+    requires { (from ≤ to) × (to ≤ length s.now) }
+    ensures { (result ≡ from + index_of b (slice_range s.now from to)) × (result ≤ to) }
+{
+    let mut i = from;
+    while i < to {
+        if s[i] == b {
+            return i;
+        }
+        i += 1;
+    }
+    to
 }
 
 // Fills one run from another of the same length.
