@@ -1,7 +1,7 @@
 -- The names of the commands and of the pools, as bytes, and the front of a command. Assumes nothing.
 use Rattle.std.specs.Prelude.{◌≡◌, List, [], ◌∷◌, ◌⊎◌, ℕ, ◌+◌, ◌≤◌, ◌<◌, Bool, eqb, length, take, drop, get_or}
 use Rattle.std.proofs.Math.Option.{Option, none, some}
-use Rattle.bytes.specs.Bytes.{index_of}
+use Rattle.label.specs.Runs.{index_of}
 use Rattle.command.specs.declared.Verb.{Verb}
 use Rattle.command.specs.declared.Named.{Named}
 use Rattle.command.specs.declared.Command.{Command}

@@ -16,8 +16,7 @@ use walk::Walk;
 
 mod results;
 
-#[unsafe(no_mangle)]
-pub extern "C" fn yarnhollow_make(labels: &mut [u8], words: &mut [u32]) -> u32
+pub fn yarnhollow_make(labels: &mut [u8], words: &mut [u32]) -> u32
     ensures {
       let was = lent labels.old words.old in
       Changes over (make_call (size_in was)) result [] [] was (lent labels.new words.new) }
@@ -25,8 +24,7 @@ pub extern "C" fn yarnhollow_make(labels: &mut [u8], words: &mut [u32]) -> u32
     pool::make(labels, words).number()
 }
 
-#[unsafe(no_mangle)]
-pub extern "C" fn yarnhollow_clear(labels: &mut [u8], words: &mut [u32]) -> u32
+pub fn yarnhollow_clear(labels: &mut [u8], words: &mut [u32]) -> u32
     ensures {
       let was = lent labels.old words.old in
       Changes over (clear_call (tree_in was)) result [] [] was (lent labels.new words.new) }
@@ -34,8 +32,7 @@ pub extern "C" fn yarnhollow_clear(labels: &mut [u8], words: &mut [u32]) -> u32
     pool::clear(labels, words).number()
 }
 
-#[unsafe(no_mangle)]
-pub extern "C" fn yarnhollow_get(
+pub fn yarnhollow_get(
     labels: &[u8],
     words: &[u32],
     key: &[u8],
@@ -53,8 +50,7 @@ pub extern "C" fn yarnhollow_get(
     answer.number()
 }
 
-#[unsafe(no_mangle)]
-pub extern "C" fn yarnhollow_insert(
+pub fn yarnhollow_insert(
     labels: &mut [u8],
     words: &mut [u32],
     key: &[u8],
@@ -75,8 +71,7 @@ pub extern "C" fn yarnhollow_insert(
     answer.number()
 }
 
-#[unsafe(no_mangle)]
-pub extern "C" fn yarnhollow_remove(
+pub fn yarnhollow_remove(
     labels: &mut [u8],
     words: &mut [u32],
     key: &[u8],
@@ -95,8 +90,7 @@ pub extern "C" fn yarnhollow_remove(
     answer.number()
 }
 
-#[unsafe(no_mangle)]
-pub extern "C" fn yarnhollow_longest(
+pub fn yarnhollow_longest(
     labels: &[u8],
     words: &[u32],
     query: &[u8],
@@ -115,8 +109,7 @@ pub extern "C" fn yarnhollow_longest(
     answer.number()
 }
 
-#[unsafe(no_mangle)]
-pub extern "C" fn yarnhollow_shared(
+pub fn yarnhollow_shared(
     labels: &[u8],
     words: &[u32],
     query: &[u8],
@@ -146,8 +139,7 @@ fn resumed(prefix: &[u8], last: &[u8], begun: u32) -> Walk
 }
 
 // The walk's step, its state lent as plain slices and a number: with `begun` 0 no key has been given, and `last` does not count.
-#[unsafe(no_mangle)]
-pub extern "C" fn yarnhollow_next(
+pub fn yarnhollow_next(
     labels: &[u8],
     words: &[u32],
     prefix: &[u8],
@@ -170,8 +162,7 @@ pub extern "C" fn yarnhollow_next(
     answer.number()
 }
 
-#[unsafe(no_mangle)]
-pub extern "C" fn yarnhollow_split(
+pub fn yarnhollow_split(
     labels: &mut [u8],
     words: &mut [u32],
     prefix: &[u8],
@@ -187,8 +178,7 @@ pub extern "C" fn yarnhollow_split(
     split::split(labels, words, prefix, labels2, words2).number()
 }
 
-#[unsafe(no_mangle)]
-pub extern "C" fn yarnhollow_counts(
+pub fn yarnhollow_counts(
     labels: &[u8],
     words: &[u32],
     keys: &mut usize,
@@ -205,8 +195,7 @@ pub extern "C" fn yarnhollow_counts(
     answer.number()
 }
 
-#[unsafe(no_mangle)]
-pub extern "C" fn yarnhollow_write(
+pub fn yarnhollow_write(
     labels: &[u8],
     words: &[u32],
     tree: &mut [u8],
@@ -226,8 +215,7 @@ pub extern "C" fn yarnhollow_write(
     answer.number()
 }
 
-#[unsafe(no_mangle)]
-pub extern "C" fn yarnhollow_read(
+pub fn yarnhollow_read(
     labels: &mut [u8],
     words: &mut [u32],
     tree: &[u8],

@@ -1,9 +1,10 @@
-// Standard input, line by line.
+// A reader's bytes, line by line.
 #![tactic(auto)]
 
+ghost use Rattle.std.specs.Prelude.{IfOk};
 ghost use Rattle.input.specs.Lines.{Keeps, Unread};
 
-use libc::STDIN_FILENO;
+use std::io::{self, Read};
 
 // A line: so many bytes of it have come, one more than its room has where it is too long. The next one begins at `at` in the
 // chunk, of which `got` bytes are read; or the input has ended.
@@ -55,32 +56,37 @@ fn keep(line: &mut [u8], n: usize, more: &[u8]) -> usize
 
 // The next line. Reads on where the chunk ends before it. A loop has to end, and nothing says that a line does: the turns are
 // counted down from a number that no run uses up.
-pub fn next_line(next: Next, line: &mut [u8; 131072], chunk: &mut [u8; 4096]) -> Next
+pub fn next_line<R: Read>(
+    from: &mut R,
+    next: Next,
+    line: &mut [u8; 131072],
+    chunk: &mut [u8; 4096],
+) -> io::Result<Next>
     requires { Unread next.at next.got }
-    ensures { Unread result.at result.got }
+    ensures { IfOk result (λ r. Unread r.at r.got) }
 {
     let mut len: usize = 0;
     let mut at = next.at;
     let mut got = next.got;
     let mut turns = u64::MAX;
     while turns > 0 {
-        let end = bytes::scan::find(chunk, at, got, b'\n');
         let part = &chunk[..];
+        let end = label::find(part, at, got, b'\n');
         len = keep(line, len, &part[at..end]);
         if end < got {
-            return Next {
+            return Ok(Next {
                 len,
                 at: end + 1,
                 got,
                 ended: false,
-            };
+            });
         }
-        got = io::count(libc::read(STDIN_FILENO, chunk), chunk);
+        got = from.read(chunk)?;
         at = 0;
         if got == 0 {
-            return ended(len);
+            return Ok(ended(len));
         }
         turns -= 1;
     }
-    ended(len)
+    Ok(ended(len))
 }

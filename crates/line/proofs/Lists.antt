@@ -7,8 +7,9 @@ use Prim.Native.Nat.{ℕ, suc, ◌+◌, ◌-◌, ◌<◌, ◌≤◌}
 use native.Mathlib.Numerals.{add-one}
 use native.Mathlib.Omega.{arith}
 use lib.ListN.{length, take, drop, set, length-set, length-append, length-take, length-drop}
-use lib.Seq.{take-suc-set, drop-drop, take-length, length-take-le}
-use Rattle.bytes.specs.Bytes.{index_of, slice}
+use lib.Seq.{take-suc-set, drop-drop, take-length, length-take-le, take_all}
+use Rattle.label.specs.Runs.{index_of}
+use Rattle.std.specs.Prelude.{slice_range}
 use Rattle.line.specs.Spelling.{value, Number, NumberTaken, Listed, last, more, first_of, dash, ManyTaken, ListTaken}
 use Rattle.label.proofs.Moves.{by_lt}
 use Rattle.line.specs.declared.Taken.{Taken}
@@ -57,9 +58,11 @@ done_more out k v h = rw add-one (take-suc-set out k v h)
 pub Comma : (s : List ℕ) (at e : ℕ) → Type 0
 Comma s at e = (e ≡ at + index_of 44 (drop at s)) × (e ≤ length s)
 
-pub comma : (s : List ℕ) (at e : ℕ) → e ≡ at + index_of 44 (slice at (length s) s) → e ≤ length s → Comma s at e
-unfolding Comma slice
-comma s at e f h = (rw take-length at f, h)
+pub comma : (s : List ℕ) (at e : ℕ) → e ≡ at + index_of 44 (slice_range s at (length s)) → e ≤ length s → Comma s at e
+unfolding Comma
+comma s at e f h =
+    let all : take (length s - at) (drop at s) ≡ drop at s = take_all (length s - at) (drop at s) (omega (arith, length-drop at s)) in
+    (rw all at f, h)
 
 word_cut : (s : List ℕ) (at e : ℕ) → Comma s at e → take (e - at) (drop at s) ≡ first_of (drop at s)
 unfolding Comma

@@ -4,7 +4,7 @@
 
 ghost use Rattle.std.specs.Prelude.{◌≡◌};
 ghost use Rattle.line.specs.Spelling.{FirstWord, HexTaken, KeyTaken, DecimalTaken, NumberTaken, ManyTaken, ListTaken};
-ghost use Rattle.line.specs.Spelling.{nibble as Spelling·nibble};
+ghost use Rattle.line.specs.Spelling.{nibble as spelt_nibble};
 
 // The largest number of 64 bits.
 const LARGEST: u64 = 18446744073709551615;
@@ -26,12 +26,12 @@ pub enum Numeral {
 pub fn word_end(s: &[u8]) -> usize
     ensures { FirstWord s.now result }
 {
-    bytes::scan::find(s, 0, s.len(), b' ')
+    label::find(s, 0, s.len(), b' ')
 }
 
 // The value of a hex digit, 16 for any other byte.
 fn nibble(b: u8) -> u8
-    ensures { result ≡ Spelling·nibble b }
+    ensures { result ≡ spelt_nibble b }
 {
     if b < 48 {
         return 16;
@@ -131,7 +131,7 @@ fn many(s: &[u8], out: &mut [u64]) -> Taken
     let mut at: usize = 0;
     let mut k: usize = 0;
     while k < out.len() {
-        let e = bytes::scan::find(s, at, s.len(), b',');
+        let e = label::find(s, at, s.len(), b',');
         let Numeral::Is(n) = number(&s[at..e]) else {
             return Taken::Bad;
         };

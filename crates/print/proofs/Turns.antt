@@ -6,8 +6,7 @@ use native.Mathlib.Omega.{arith}
 use lib.ListN.{length, get_or, set, length-set}
 use lib.Seq.{get_or-set_same, get_or-set_other}
 use Rattle.label.proofs.Moves.{by_lt}
-use Rattle.io.specs.Digits.{hex_digit_ascii}
-use Rattle.print.specs.Hex.{Spelling}
+use Rattle.print.specs.Hex.{hex_digit_ascii, Spelling}
 
 pub spell_none : (s was : List ℕ) → Spelling s was was 0
 spell_none s was =

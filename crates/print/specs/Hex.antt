@@ -1,6 +1,9 @@
 -- Bytes as hex text. Assumes nothing.
-use Rattle.std.specs.Prelude.{◌≡◌, List, ℕ, ◌+◌, ◌*◌, ◌/◌, ◌%◌, ◌≤◌, ◌<◌, length, get_or}
-use Rattle.io.specs.Digits.{hex_digit_ascii}
+use Rattle.std.specs.Prelude.{◌≡◌, List, ℕ, ◌+◌, ◌*◌, ◌/◌, ◌%◌, ◌≤◌, ◌<◌, length, get_or, cond, nat_lt}
+
+-- The character of a hex digit: `0` to `9`, then `a` to `f`
+abbrev pub hex_digit_ascii : ℕ → ℕ
+hex_digit_ascii d = cond (nat_lt d 10) (48 + d) (87 + d)
 
 -- out is was with two hex digits for each of the first n bytes of s at its front.
 pub record Spelling (s was out : List ℕ) (n : ℕ) : Type 0 where

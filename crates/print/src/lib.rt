@@ -1,37 +1,36 @@
-// Text on standard output: numbers in decimal, bytes in lower-case hex, lists joined by commas, `-` for none.
+// Text for a writer: numbers in decimal, bytes in lower-case hex, lists joined by commas, `-` for none.
 #![tactic(auto)]
 
 ghost use Rattle.std.specs.Prelude.{◌≡◌, ◌<◌, length};
-ghost use Rattle.io.specs.Digits.{hex_digit_ascii as Digits·glyph};
-ghost use Rattle.print.specs.Hex.{Spelt};
+ghost use Rattle.print.specs.Hex.{hex_digit_ascii, Spelt};
 
-use libc::STDOUT_FILENO;
+use std::io::{self, Write};
 
 // So many bytes are spelt at once.
 const AT_ONCE: usize = 2048;
 
-pub fn text(s: &[u8]) {
-    io::write_all(STDOUT_FILENO, s);
+pub fn text<W: Write>(out: &mut W, s: &[u8]) -> io::Result<()> {
+    out.write_all(s)
 }
 
-pub fn number(n: u64) {
-    io::print_decimal(STDOUT_FILENO, n);
+pub fn number<W: Write>(out: &mut W, n: u64) -> io::Result<()> {
+    write!(out, "{n}")
 }
 
 // A number behind a space.
-pub fn value(n: u64) {
-    text(b" ");
-    number(n);
+pub fn value<W: Write>(out: &mut W, n: u64) -> io::Result<()> {
+    text(out, b" ")?;
+    number(out, n)
 }
 
-pub fn line_end() {
-    text(b"\n");
+pub fn line_end<W: Write>(out: &mut W) -> io::Result<()> {
+    text(out, b"\n")
 }
 
 // The character of a hex digit.
 fn glyph(d: u8) -> u8
     requires { d < 16 }
-    ensures { result ≡ Digits·glyph d }
+    ensures { result ≡ hex_digit_ascii d }
 {
     if d < 10 { 48 + d } else { 87 + d }
 }
@@ -54,54 +53,54 @@ pub fn spell(bytes: &[u8], out: &mut [u8]) -> usize
 }
 
 // Writes the hex of a run of at most 2,048 bytes.
-fn short_hex(bytes: &[u8]) {
-    let mut out = io::buffer();
-    let n = spell(bytes, &mut out);
+fn short_hex<W: Write>(out: &mut W, bytes: &[u8]) -> io::Result<()> {
+    let mut room = [0u8; 4096];
+    let n = spell(bytes, &mut room);
     if n <= AT_ONCE {
-        text(&out[..2 * n]);
+        text(out, &room[..2 * n])?;
     }
+    Ok(())
 }
 
 // Writes the hex of any run, 2,048 bytes at once.
-fn long_hex(bytes: &[u8]) {
+fn long_hex<W: Write>(out: &mut W, bytes: &[u8]) -> io::Result<()> {
     let mut at: usize = 0;
     while AT_ONCE < bytes.len() - at {
-        short_hex(&bytes[at..at + AT_ONCE]);
+        short_hex(out, &bytes[at..at + AT_ONCE])?;
         at += AT_ONCE;
     }
-    short_hex(&bytes[at..]);
+    short_hex(out, &bytes[at..])
 }
 
 // The hex of a run of bytes, `-` for none.
-pub fn hex(bytes: &[u8]) {
+pub fn hex<W: Write>(out: &mut W, bytes: &[u8]) -> io::Result<()> {
     if bytes.len() == 0 {
-        text(b"-");
-        return;
+        return text(out, b"-");
     }
-    long_hex(bytes);
+    long_hex(out, bytes)
 }
 
-fn behind_comma(n: u64) {
-    text(b",");
-    number(n);
+fn behind_comma<W: Write>(out: &mut W, n: u64) -> io::Result<()> {
+    text(out, b",")?;
+    number(out, n)
 }
 
-fn many(numbers: &[u64])
+fn many<W: Write>(out: &mut W, numbers: &[u64]) -> io::Result<()>
     requires { 0 < length numbers.now }
 {
-    number(numbers[0]);
+    number(out, numbers[0])?;
     let mut i: usize = 1;
     while i < numbers.len() {
-        behind_comma(numbers[i]);
+        behind_comma(out, numbers[i])?;
         i += 1;
     }
+    Ok(())
 }
 
 // Numbers joined by commas, `-` for none.
-pub fn list(numbers: &[u64]) {
+pub fn list<W: Write>(out: &mut W, numbers: &[u64]) -> io::Result<()> {
     if numbers.len() == 0 {
-        text(b"-");
-        return;
+        return text(out, b"-");
     }
-    many(numbers);
+    many(out, numbers)
 }

@@ -1,0 +1,13 @@
+-- `line::digits` meets its contract: each turn reads one digit. Assumes nothing.
+use native.Mathlib.Omega.{arith}
+use mathlib.Core.Path.{refl}
+use Rattle.line.proofs.Turns.{Valuing, valuing_none, valuing_step, valuing_done, value-more, value_grows}
+use lib.ListN.{length}
+use Prim.Native.Nat.{◌-◌, ◌+◌}
+use Rattle.line.proofs.digits.Given as goal
+
+abbrev pub invariant-loop-i : goal.invariant-loop-i
+invariant-loop-i l = Valuing l.s l.n l.i
+
+abbrev pub decreases-loop-i : goal.decreases-loop-i
+decreases-loop-i l = length l.s - l.i

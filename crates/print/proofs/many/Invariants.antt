@@ -1,0 +1,11 @@
+-- `print::many` is safe and ends. Assumes nothing.
+use native.Mathlib.Omega.{arith}
+use lib.ListN.{length}
+use Prim.Native.Nat.{◌-◌, ◌≤◌}
+use Rattle.print.proofs.many.Given as goal
+
+abbrev pub invariant-loop-i : goal.invariant-loop-i
+invariant-loop-i g l = l.i ≤ length l.numbers
+
+abbrev pub decreases-loop-i : goal.decreases-loop-i
+decreases-loop-i g l = length l.numbers - l.i
