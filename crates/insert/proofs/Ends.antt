@@ -1,11 +1,11 @@
 -- Where the search has ended: what its slot says, what may be done there, and which splice of records inserts the key.
 -- Assumes nothing.
 use mathlib.Core.Path.{◌≡◌, refl, sym, ap, ◌∙◌}
-use mathlib.Core.Bool.{Bool, true, false}
+use mathlib.Core.Bool.{true, false}
 use mathlib.Core.List.{List, [], ◌∷◌, ◌++◌, append_assoc}
 use mathlib.Core.Option.{none, some}
-use mathlib.Core.Logic.{inl, inr}
-use Prim.Native.Nat.{ℕ, zero, suc, ◌+◌, ◌*◌, ◌-◌, ◌/◌, ◌≤◌, ◌<◌}
+use mathlib.Core.Logic.{◌⊎◌, inl, inr}
+use Prim.Native.Nat.{ℕ, suc, ◌+◌, ◌-◌, ◌/◌, ◌≤◌, ◌<◌}
 use native.Mathlib.Omega.{arith}
 use mir.Syntax.{w64}
 use mir.Val.{Fits}
@@ -15,12 +15,12 @@ use lib.Seq.{take_all, drop-drop, drop_at, get_or-append_seam}
 use borrow.Author.Tests.{lt-ltb, le-ltb}
 use Rattle.tree.specs.Key.{Key, Bytes, key_max}
 use Rattle.tree.specs.Map.{Num}
-use Rattle.tree.specs.Tree.{Forest, nil, node, Tree, Above, Wf, room, nodes_f, nodes_t}
+use Rattle.tree.specs.Tree.{Forest, nil, node, Tree, Wf, room, nodes_f}
 use Rattle.tree.specs.Image.{numbers_w}
 use Rattle.tree.specs.Insert.{leaf, insert_f, insert_t}
 use Rattle.tree.specs.Told.{Told, done, refusal}
 use Rattle.tree.specs.Calls.{insert_call}
-use Rattle.tree.specs.Context.{Context, top, down, over, plug, depth, before, Leads}
+use Rattle.tree.specs.Context.{Context, top, down, over, plug, depth, before}
 use Rattle.tree.proofs.Order.{less, even, more, cmp}
 use Rattle.tree.proofs.Context.{insert-plug}
 use Rattle.slots.specs.Layout.{slots_in, words_for, nodes_of, start_of, len_of, span_of, label_of, num_at}
@@ -28,16 +28,13 @@ use Rattle.slots.specs.Records.{node_rec, root_rec}
 use Rattle.pool.specs.Pool.{pool_tree}
 use Rattle.pool.specs.Rule.{PoolRule}
 use Rattle.pool.specs.Post.{Meets}
-use Rattle.slots.specs.Bare.{Bare, bare_at, bares_from, node_bare, bares_f, root_bare, bares_t, bare_of, front_of, back_of}
+use Rattle.slots.specs.Bare.{Bare, bare_at, bares_from, node_bare, bares_f, root_bare, bares_t, front_of, back_of}
 use Rattle.pool.proofs.Stands.{Stands, Holds, nodes_are, stands_at}
 use Rattle.pool.proofs.Held.{slot-is_rec}
 use Rattle.splice.proofs.Bares.{Stops, stops_beside, stops_deeper, bares_f-length, node-bares, stands_bares, ahead, behind, ahead-length, tree_around}
-use types.Run.{OneOf}
-use denote.Enum.Declared.{tag_of}
 use Rattle.search.specs.declared.Stop.{Stop}
-use Rattle.search.specs.contracts.Stop.{the_type}
 use Rattle.search.specs.declared.Descent.{Descent}
-use Rattle.search.specs.Landing.{Ends, Place, PlaceOf}
+use Rattle.search.specs.Landing.{Place, PlaceOf}
 use Rattle.search.proofs.Places.{plug_stands, plug-wf, plug-nodes, nodes-node, leads-drop, leads-length}
 use Rattle.search.proofs.Answers.{Known, tree, tree_is, holds, looked-is, place, got_at, get_place, place-within}
 use Rattle.insert.specs.Splices.{leaf_bares, Grows, Opens, Cuts, Forks, set_bares, fork_bares, fork_side, fork_was, total, Placed, leaf_nodes, KeyLeft, new_nodes}
@@ -328,15 +325,15 @@ AtNumber Stop.Same = Unit {0}
 AtNumber (Stop.Inside m) = ⊥
 AtNumber (Stop.Fork m) = ⊥
 
-at-number : (s : Stop) → OneOf (0 ∷ 2 ∷ []) (tag_of the_type s) → AtNumber s
+at-number : (s : Stop) → (s ≡ Stop.Root) ⊎ (s ≡ Stop.Same) → AtNumber s
 at-number Stop.Root h = tt
-at-number Stop.Gap (inl e) = omega arith
-at-number Stop.Gap (inr e) = omega arith
+at-number Stop.Gap (inl e) = cc
+at-number Stop.Gap (inr e) = cc
 at-number Stop.Same h = tt
-at-number (Stop.Inside m) (inl e) = omega arith
-at-number (Stop.Inside m) (inr e) = omega arith
-at-number (Stop.Fork m) (inl e) = omega arith
-at-number (Stop.Fork m) (inr e) = omega arith
+at-number (Stop.Inside m) (inl e) = cc
+at-number (Stop.Inside m) (inr e) = cc
+at-number (Stop.Fork m) (inl e) = cc
+at-number (Stop.Fork m) (inr e) = cc
 
 -- The room that the code has tested for
 pub grows_by : {ws bs : List ℕ} → PoolRule ws bs → (n k : ℕ) → n ≡ nodes_of ws → n + k ≤ length bs / 255 → Grows ws bs n k
@@ -373,7 +370,7 @@ module _ {ws bs key : List ℕ} {d : Descent} (w : Known ws bs key d) where
   set_at (Stop.Inside m) e h = absurd h
   set_at (Stop.Fork m) e h = absurd h
 
-  pub set_asks : OneOf (0 ∷ 2 ∷ []) (tag_of the_type d.stop) → SetAsks
+  pub set_asks : (d.stop ≡ Stop.Root) ⊎ (d.stop ≡ Stop.Same) → SetAsks
   set_asks h = set_at d.stop refl (at-number d.stop h)
 
   gap-place : d.stop ≡ Stop.Gap → (d.at.0 ≤ nodes_of ws) × (d.above < length key)
@@ -481,7 +478,7 @@ module _ {ws bs key : List ℕ} {d : Descent} (w : Known ws bs key d) where
   set_there by v (Stop.Inside m) e h vs cs told y x = absurd h
   set_there by v (Stop.Fork m) e h vs cs told y x = absurd h
 
-  pub set_meets : OneOf (0 ∷ 2 ∷ []) (tag_of the_type d.stop) → Bytes key → (v : ℕ) {vs cs : List ℕ} {told : Told}
+  pub set_meets : (d.stop ≡ Stop.Root) ⊎ (d.stop ≡ Stop.Same) → Bytes key → (v : ℕ) {vs cs : List ℕ} {told : Told}
       → OldTold told (num_at ws d.at.0) → SetThere v vs cs
       → Meets (insert_call (pool_tree ws bs) (slots_in bs) key v) told ws bs vs cs
   set_meets h by v {vs} {cs} {told} y x = set_there by v d.stop refl (at-number d.stop h) vs cs told y x

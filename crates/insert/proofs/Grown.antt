@@ -2,23 +2,23 @@
 use mathlib.Core.Path.{◌≡◌, refl, sym, ap, ◌∙◌, subst}
 use mathlib.Core.Bool.{true, false}
 use mathlib.Core.List.{List, [], ◌∷◌, ◌++◌}
-use mathlib.Core.Option.{none, some}
-use Prim.Native.Nat.{ℕ, zero, suc, ◌+◌, ◌*◌, ◌-◌, ◌≤◌, ◌<◌}
+use mathlib.Core.Option.{some}
+use Prim.Native.Nat.{ℕ, suc, ◌+◌, ◌≤◌, ◌<◌}
 use native.Mathlib.Omega.{arith}
 use lib.Dec.{leb}
 use lib.ListN.{length, length-append}
 use borrow.Author.Tests.{le-leb, lt-leb}
 use Rattle.tree.specs.Key.{Key, Bytes, key_max}
-use Rattle.tree.specs.Tree.{Tree, nodes_f, nodes_t}
+use Rattle.tree.specs.Tree.{Tree, nodes_t}
 use Rattle.tree.specs.Image.{numbers_w}
 use Rattle.tree.specs.Search.{get_t, looked_t}
 use Rattle.tree.specs.Insert.{insert_t}
 use Rattle.tree.specs.Told.{Told, done, refusal}
 use Rattle.tree.specs.Calls.{insert_call}
 use Rattle.tree.proofs.InsertWf.{insert-wf}
-use Rattle.slots.specs.Layout.{slots_in, nodes_of}
+use Rattle.slots.specs.Layout.{slots_in}
 use Rattle.slots.specs.Records.{run}
-use Rattle.pool.specs.Pool.{pool_tree, slots_of}
+use Rattle.pool.specs.Pool.{pool_tree}
 use Rattle.pool.specs.Rule.{PoolRule}
 use Rattle.pool.specs.Post.{Meets}
 use Rattle.slots.specs.Bare.{Bare, bare_at, bares_from, bares_t}

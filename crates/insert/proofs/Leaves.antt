@@ -2,12 +2,11 @@
 use mathlib.Core.Path.{◌≡◌, refl, sym, ap, ◌∙◌}
 use mathlib.Core.List.{List, [], ◌∷◌, ◌++◌, append_assoc, append-nil}
 use mathlib.Core.Option.{none, some}
-use Prim.Native.Nat.{ℕ, zero, suc, ◌+◌, ◌*◌, ◌-◌, ◌/◌, ◌≤◌, ◌<◌}
+use Prim.Native.Nat.{ℕ, zero, suc, ◌+◌, ◌-◌, ◌≤◌, ◌<◌}
 use native.Mathlib.Omega.{arith}
-use lib.ListN.{length, get_or, take, drop, length-take, length-drop, drop_of_length-le}
+use lib.ListN.{length, take, drop, length-drop, drop_of_length-le}
 use lib.Seq.{take_all, length-take-le}
 use Rattle.tree.specs.Key.{Key}
-use Rattle.tree.specs.Map.{Num}
 use Rattle.tree.specs.Tree.{Forest, nil, node, room, nodes_f}
 use Rattle.tree.specs.Insert.{chain, leaf}
 use Rattle.tree.proofs.Nodes.{chain_nodes, leaf-nodes}
@@ -15,8 +14,8 @@ use Rattle.label.proofs.Moves.{by_lt}
 use Rattle.slots.specs.Layout.{RoomIn, span_of}
 use Rattle.slots.specs.Records.{run}
 use Rattle.pool.specs.Rule.{Within}
-use Rattle.slots.specs.Bare.{Bare, bare_at, bares_from, node_bare, bares_f, bare_of, Filled}
-use Rattle.slots.proofs.Runs.{run_cons, run_ext}
+use Rattle.slots.specs.Bare.{Bare, bare_at, bares_f, bare_of, Filled}
+use Rattle.slots.proofs.Runs.{run_cons}
 use Rattle.splice.proofs.Bares.{bares_f-length}
 use Rattle.insert.specs.Splices.{leaf_nodes, leaf_bares, Built}
 

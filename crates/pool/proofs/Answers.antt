@@ -1,25 +1,24 @@
 -- What make, clear and counts answer and leave, from what their tests said. Assumes nothing.
-use mathlib.Core.Path.{◌≡◌, refl, sym, ap, ◌∙◌, subst}
+use mathlib.Core.Path.{◌≡◌, refl, ap}
 use mathlib.Core.List.{List, [], ◌∷◌}
 use mathlib.Core.Option.{Option, none, some}
-use Prim.Native.Nat.{ℕ, zero, suc, ◌+◌, ◌<◌, ◌≤◌}
+use Prim.Native.Nat.{ℕ, suc}
 use native.Mathlib.Omega.{arith}
 use lib.ListN.{get_or}
 use mir.Syntax.{w8}
 use mir.Val.{Fits}
-use Rattle.tree.specs.Key.{Key, Bytes}
-use Rattle.tree.specs.Tree.{Tree, nodes_t, keys_t, empty}
+use Rattle.tree.specs.Key.{Bytes}
+use Rattle.tree.specs.Tree.{Tree}
 use Rattle.tree.specs.Remove.{clear_t}
-use Rattle.tree.specs.Told.{Told, done, refusal}
+use Rattle.tree.specs.Told.{done, refusal}
 use Rattle.tree.specs.Calls.{make_call, clear_call, counts_call}
 use Rattle.slots.specs.Layout.{nodes_of}
 use Rattle.pool.specs.Pool.{pool_tree, slots_of}
-use Rattle.pool.specs.Rule.{Lengths, PoolRule}
+use Rattle.pool.specs.Rule.{PoolRule}
 use Rattle.pool.specs.Post.{Meets}
 use Rattle.pool.specs.Fields.{has_sum, emptied}
 use Rattle.pool.proofs.Decode.{lengths-right}
 use Rattle.pool.proofs.Ruled.{rule-tree, tree-rule}
-use Rattle.pool.proofs.Stands.{Holds}
 use Rattle.pool.proofs.Held.{tree-holds}
 use Rattle.pool.proofs.Sums.{sum_keys, emptied-tree, emptied-slots}
 

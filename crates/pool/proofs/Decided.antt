@@ -2,21 +2,19 @@
 -- they allow agree. Assumes nothing.
 use mathlib.Core.Path.{◌≡◌, refl, sym, ap, ◌∙◌}
 use mathlib.Core.Bool.{Bool, true, false}
-use mathlib.Core.List.{List}
-use mathlib.Core.Option.{Option, none, some}
+use mathlib.Core.Option.{Option}
 use Prim.Native.Nat.{ℕ}
-use Rattle.tree.specs.Told.{Told, emptied_told, counted_told}
-use Rattle.tree.specs.Calls.{Outcome, refuses, leaves, make_call, clear_call, counts_call}
+use Rattle.tree.specs.Told.{Told, emptied_told}
+use Rattle.tree.specs.Calls.{Outcome, refuses, leaves, make_call, clear_call}
 use Rattle.tree.specs.declared.Emptied.{Emptied}
 use Rattle.tree.specs.declared.Counted.{Counted}
 use Rattle.tree.proofs.Judge.{never}
 use Rattle.tree.proofs.OneAnswer.{emptied_one, counted_one}
 use Rattle.pool.specs.declared.Sized.{Sized}
-use Rattle.pool.specs.Pool.{pool_tree, slots_of}
 use Rattle.pool.specs.Lent.{Lent, tree_in, size_in}
 use Rattle.pool.specs.Rule.{Says}
 use Rattle.pool.specs.Fields.{sized_of}
-use Rattle.pool.specs.Post.{Meets, Does, MakeAllows, ClearAllows, CountsAllows}
+use Rattle.pool.specs.Post.{Does, MakeAllows, ClearAllows, CountsAllows}
 
 -- Two moments with the same words and bytes are one.
 pub lent_same : {l m : Lent} → l.words ≡ m.words → l.labels ≡ m.labels → l ≡ m

@@ -1,9 +1,9 @@
 -- `forest_at` and `pool_tree` case by case. Assumes nothing.
 use mathlib.Core.Path.{◌≡◌, refl, sym, ap, ◌∙◌}
 use mathlib.Core.Bool.{Bool, true, false}
-use mathlib.Core.List.{List, [], ◌∷◌}
+use mathlib.Core.List.{List}
 use mathlib.Core.Option.{Option, none, some}
-use Prim.Native.Nat.{ℕ, zero, suc, ◌+◌, ◌*◌, ◌/◌, ◌≤◌, ◌<◌}
+use Prim.Native.Nat.{ℕ, zero, suc, ◌+◌, ◌≤◌}
 use native.Mathlib.Omega.{arith}
 use lib.ListN.{length, drop}
 use lib.Dec.{eqb}
@@ -11,9 +11,9 @@ use borrow.Author.Tests.{eq-eqb, ne_eqb, eqb-true, eqb-false}
 use Rattle.tree.specs.Key.{Key, key_max}
 use Rattle.tree.specs.Map.{Num}
 use Rattle.tree.specs.Tree.{Forest, nil, node, Tree}
-use Rattle.tree.specs.Reader.{Rule, broken, sound, judge}
+use Rattle.tree.specs.Reader.{broken, judge}
 use Rattle.tree.proofs.Order.{none-some}
-use Rattle.tree.proofs.Judge.{All, passed, Judged, passes, breaks, judged}
+use Rattle.tree.proofs.Judge.{All, passed, passes, breaks, judged}
 use Rattle.slots.specs.Layout.{slots_in, nodes_of, start_of, len_of, has_of, span_of, first_of, label_of, num_at}
 use Rattle.pool.specs.Pool.{length_rules, slots_of, child_rules, joined, forest_at, root_rules, rooted, pool_tree}
 use Rattle.pool.specs.Rule.{Lengths}

@@ -1,12 +1,11 @@
 -- Pools that agree in what counts hold the same tree; so a call that goes by the tree tells the same of both, and leaves the
 -- same. Assumes nothing.
-use mathlib.Core.Path.{◌≡◌, refl, sym, ap, ◌∙◌}
-use mathlib.Core.List.{List}
+use mathlib.Core.Path.{◌≡◌, refl, sym, ◌∙◌}
 use mathlib.Core.Option.{Option, none, some}
 use Prim.Native.Nat.{ℕ, suc, ◌+◌, ◌<◌}
 use native.Mathlib.Omega.{arith}
 use Rattle.tree.specs.Key.{Bytes}
-use Rattle.tree.specs.Tree.{Forest, Tree, nodes_f, nodes_t}
+use Rattle.tree.specs.Tree.{Tree, nodes_f}
 use Rattle.tree.specs.Told.{Told}
 use Rattle.tree.specs.Calls.{Outcome, refuses, leaves}
 use Rattle.tree.proofs.Judge.{never}

@@ -1,20 +1,19 @@
 -- A pool has the tree t exactly where t is well-formed and stands in its slots. Assumes nothing.
 use mathlib.Core.Path.{◌≡◌, refl, sym, ap, ◌∙◌, subst}
 use mathlib.Core.List.{List, [], ◌∷◌}
-use mathlib.Core.Option.{Option, none, some}
-use Prim.Native.Nat.{ℕ, zero, suc, ◌+◌, ◌*◌, ◌-◌, ◌≤◌, ◌<◌}
+use mathlib.Core.Option.{none, some}
+use Prim.Native.Nat.{ℕ, zero, suc, ◌+◌, ◌*◌, ◌≤◌}
 use native.Mathlib.Nat.{add-zero}
 use native.Mathlib.Omega.{arith}
 use lib.ListN.{length, get_or, take, drop, length-take, length-drop}
-use lib.Seq.{drop-cons, get_or-drop, take-take}
-use Rattle.tree.specs.Key.{Key, Bytes, key_max}
+use lib.Seq.{drop-cons, get_or-drop}
+use Rattle.tree.specs.Key.{Key, Bytes}
 use Rattle.tree.specs.Map.{Num}
-use Rattle.tree.specs.Tree.{Forest, nil, node, Tree, Above, Used, NodeRule, Wf, WellFormed, room, nodes_f, nodes_t, keys_w}
+use Rattle.tree.specs.Tree.{Forest, nil, node, Tree, Above, Used, Wf, room, nodes_f, keys_w}
 use Rattle.slots.specs.Layout.{label_room, bytes_for, RoomIn, nodes_of, start_of, len_of, has_of, number_of, span_of, first_of, label_of, num_of, num_at}
 use Rattle.slots.specs.Records.{Rec, rec_at, node_rec, root_rec}
 use Rattle.pool.specs.Pool.{joined, forest_at, rooted, pool_tree}
-use Rattle.pool.specs.Rule.{Lengths}
-use Rattle.pool.proofs.Decode.{Kid, at-end, at_kid, node_in, Found, ended, begun, found, slots_of_lem, Root, tree_of, Treed, treed}
+use Rattle.pool.proofs.Decode.{Kid, at-end, at_kid, node_in, ended, begun, found, slots_of_lem, Root, tree_of, treed}
 use Rattle.pool.proofs.Stands.{Stands, Holds, nodes_are}
 
 -- Bytes of a part

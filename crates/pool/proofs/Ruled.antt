@@ -1,16 +1,16 @@
 -- The rule as the code tests it holds exactly where the pool has a tree. Assumes nothing.
-use mathlib.Core.Path.{◌≡◌, refl, sym, ap, ◌∙◌, subst}
-use mathlib.Core.List.{List, [], ◌∷◌}
-use mathlib.Core.Option.{Option, none, some}
-use Prim.Native.Nat.{ℕ, zero, suc, ◌+◌, ◌*◌, ◌≤◌, ◌<◌}
+use mathlib.Core.Path.{◌≡◌, refl, sym, ◌∙◌, subst}
+use mathlib.Core.List.{List}
+use mathlib.Core.Option.{some}
+use Prim.Native.Nat.{ℕ, zero, suc, ◌+◌, ◌≤◌, ◌<◌}
 use native.Mathlib.Omega.{arith}
-use Rattle.tree.specs.Tree.{Forest, nil, node, Tree}
+use Rattle.tree.specs.Tree.{Forest, nil, Tree}
 use Rattle.tree.specs.Key.{key_max}
 use Rattle.label.proofs.Moves.{by_lt, by_eq}
-use Rattle.slots.specs.Layout.{nodes_of, start_of, len_of, has_of, span_of, first_of, num_at}
-use Rattle.pool.specs.Pool.{joined, forest_at, rooted, pool_tree, slots_of}
-use Rattle.pool.specs.Rule.{Child, Children, done, child, NodeAt, Lengths, PoolRule}
-use Rattle.pool.proofs.Decode.{Kid, at-end, at_kid, node_in, Found, ended, begun, found, slots_of_lem, Root, tree_of, Treed, treed}
+use Rattle.slots.specs.Layout.{nodes_of, start_of, len_of, span_of, first_of, num_at}
+use Rattle.pool.specs.Pool.{joined, forest_at, rooted, pool_tree}
+use Rattle.pool.specs.Rule.{Child, Children, done, child, NodeAt, PoolRule}
+use Rattle.pool.proofs.Decode.{Kid, at-end, at_kid, node_in, ended, begun, found, slots_of_lem, Root, tree_of, treed}
 
 -- A forest that is there
 pub record There (n : ℕ) (ws bs : List ℕ) (s least c e : ℕ) : Type 0 where

@@ -1,16 +1,13 @@
 -- Where a forest stands in a pool, slot by slot; the list of records says the same. Assumes nothing.
-use mathlib.Core.Path.{◌≡◌, refl, sym, ap, ◌∙◌, subst}
-use mathlib.Core.List.{List, [], ◌∷◌, ◌++◌}
-use mathlib.Core.Option.{Option, none, some}
-use Prim.Native.Nat.{ℕ, zero, suc, ◌+◌, ◌*◌, ◌≤◌, ◌<◌}
+use mathlib.Core.Path.{◌≡◌, refl, subst}
+use mathlib.Core.List.{List}
+use Prim.Native.Nat.{ℕ, suc, ◌+◌, ◌≤◌}
 use native.Mathlib.Omega.{arith}
 use lib.ListN.{length, length-append}
-use Rattle.tree.specs.Key.{Key}
-use Rattle.tree.specs.Map.{Num}
 use Rattle.tree.specs.Tree.{Forest, nil, node, Tree, nodes_f, nodes_t, WellFormed}
 use Rattle.slots.specs.Layout.{nodes_of}
-use Rattle.slots.specs.Records.{Rec, rec_at, run, recs_from, node_rec, recs_f, root_rec, recs_t}
-use Rattle.slots.proofs.Runs.{Parts, run-whole, run_parts}
+use Rattle.slots.specs.Records.{rec_at, run, recs_from, node_rec, recs_f, root_rec}
+use Rattle.slots.proofs.Runs.{run-whole, run_parts}
 use Rattle.pool.specs.Rule.{Lengths}
 
 -- The forest f stands from slot c on, under a path of s bytes.

@@ -1,14 +1,14 @@
 -- How many slots have a number, and what the empty tree's words hold. Assumes nothing.
 use mathlib.Core.Path.{◌≡◌, refl, ap, ◌∙◌}
 use mathlib.Core.List.{List}
-use mathlib.Core.Option.{Option, none, some}
+use mathlib.Core.Option.{none, some}
 use Prim.Native.Nat.{ℕ, suc, ◌+◌, ◌≤◌}
 use native.Mathlib.Numerals.{add-one}
 use native.Mathlib.Omega.{arith}
 use lib.ListN.{length, set, length-set}
 use lib.Seq.{get_or-set_same}
 use Rattle.tree.specs.Map.{Num}
-use Rattle.tree.specs.Tree.{Forest, nil, node, Tree, nodes_f, nodes_t, keys_w, keys_f, keys_t, empty}
+use Rattle.tree.specs.Tree.{Forest, nil, node, Tree, nodes_f, nodes_t, keys_f, keys_t, empty}
 use Rattle.slots.specs.Layout.{nodes_word, nodes_of, start_of, len_of, has_of, number_of, span_of, num_of, num_at}
 use Rattle.slots.specs.Records.{rec_at, node_rec, root_rec}
 use Rattle.slots.specs.Put.{WordsPut}
@@ -18,7 +18,7 @@ use Rattle.pool.specs.Rule.{Lengths}
 use Rattle.pool.specs.Fields.{has_sum, fresh_root, emptied}
 use Rattle.pool.proofs.Decode.{lengths_stay, slots_stay, Root}
 use Rattle.pool.proofs.Stands.{Stands, Holds, nodes_are}
-use Rattle.pool.proofs.Held.{SlotIs, slot-is_rec, root_is, holds-tree}
+use Rattle.pool.proofs.Held.{slot-is_rec, root_is, holds-tree}
 
 pub sum_more : (ws : List ℕ) (n : ℕ) → has_sum ws (n + 1) ≡ has_sum ws n + has_of ws n
 sum_more ws n = rw add-one (unfold has_sum in refl)

@@ -1,8 +1,8 @@
 -- A label cut in two: each part fills its slot. Assumes nothing.
 use mathlib.Core.Path.{◌≡◌, refl, sym, ap, ◌∙◌}
-use mathlib.Core.List.{List, [], ◌∷◌, ◌++◌}
+use mathlib.Core.List.{List}
 use mathlib.Core.Option.{none, some}
-use Prim.Native.Nat.{ℕ, zero, suc, ◌+◌, ◌*◌, ◌-◌, ◌≤◌, ◌<◌}
+use Prim.Native.Nat.{ℕ, zero, suc, ◌+◌, ◌-◌, ◌≤◌, ◌<◌}
 use native.Mathlib.Omega.{arith}
 use lib.ListN.{length, get_or, take, drop, length-take, length-drop}
 use lib.Seq.{get_or-take, get_or-drop, ext_get_or, length-take-le, take-take}
@@ -10,7 +10,7 @@ use Rattle.tree.specs.Map.{Num}
 use Rattle.label.specs.Runs.{MovedDown}
 use Rattle.label.proofs.Moves.{by_lt}
 use Rattle.slots.specs.Layout.{label_room, bytes_for, WordsIn, RoomIn, start_of, len_of, label_of, num_of, num_at}
-use Rattle.slots.specs.Bare.{Bare, bare_at, head_put, bare_of, front_of, back_of, Filled}
+use Rattle.slots.specs.Bare.{bare_at, head_put, front_of, back_of, Filled}
 use Rattle.slots.proofs.Slots.{at_place, label_put, put-length, put_low, put-mid, put-high, filled_by}
 
 -- The number read back

@@ -1,16 +1,15 @@
 -- One slot altered in its place: what it says then, and that every span stays. Assumes nothing.
 use mathlib.Core.Path.{◌≡◌, refl, sym, ap, ◌∙◌}
-use mathlib.Core.List.{List, [], ◌∷◌, ◌++◌}
-use mathlib.Core.Option.{none}
-use Prim.Native.Nat.{ℕ, zero, suc, ◌+◌, ◌*◌, ◌-◌, ◌≤◌, ◌<◌}
+use mathlib.Core.List.{List, ◌++◌}
+use Prim.Native.Nat.{ℕ, ◌+◌, ◌-◌, ◌≤◌, ◌<◌}
 use native.Mathlib.Omega.{arith}
-use lib.ListN.{length, get_or, set, take, drop, length-set, length-append, get_or-append}
+use lib.ListN.{length, get_or, set, length-set, length-append, get_or-append}
 use lib.Seq.{get_or-set_same, get_or-set_other, get_or-append-add, ext_get_or}
 use Rattle.tree.specs.Map.{Num}
 use Rattle.label.specs.Runs.{MovedDown}
 use Rattle.label.proofs.Moves.{by_lt, by_eq}
-use Rattle.slots.specs.Layout.{bytes_for, WordsIn, RoomIn, field_at, start_field, len_field, has_field, low_field, span_field, high_field, start_of, len_of, has_of, number_of, span_of, label_of, num_of, num_at}
-use Rattle.slots.specs.Bare.{Bare, bare_at, head_put, bare_of, Filled}
+use Rattle.slots.specs.Layout.{bytes_for, WordsIn, RoomIn, field_at, start_field, len_field, has_field, low_field, span_field, high_field, start_of, len_of, has_of, span_of, label_of, num_of, num_at}
+use Rattle.slots.specs.Bare.{Bare, bare_at, head_put}
 use Rattle.splice.specs.Altered.{gap_of, numberless, join_of, Altered, Joinable, Emptied}
 use Rattle.slots.proofs.Slots.{at_place, label_put, bare_eq, put-length, put_low, put-mid, put-high, filled_by, head-span}
 use Rattle.slots.proofs.Cuts.{label-length, label_get}

@@ -1,9 +1,9 @@
 -- Bare records and right spans are a tree; a splice of bare records is a step of the tree. Assumes nothing.
-use mathlib.Core.Path.{◌≡◌, refl, sym, ap, ◌∙◌, subst}
+use mathlib.Core.Path.{◌≡◌, refl, sym, ap, ◌∙◌}
 use mathlib.Core.Logic.{◌⊎◌, inl, inr}
 use mathlib.Core.List.{List, [], ◌∷◌, ◌++◌, append_assoc, append-nil}
-use mathlib.Core.Option.{Option, none, some}
-use Prim.Native.Nat.{ℕ, zero, suc, ◌+◌, ◌*◌, ◌-◌, ◌≤◌, ◌<◌}
+use mathlib.Core.Option.{some}
+use Prim.Native.Nat.{ℕ, suc, ◌+◌, ◌-◌, ◌≤◌, ◌<◌}
 use native.Mathlib.Omega.{arith}
 use lib.ListN.{length, length-append}
 use Rattle.tree.specs.Key.{Key}
@@ -11,15 +11,15 @@ use Rattle.tree.specs.Map.{Num}
 use Rattle.tree.specs.Tree.{Forest, nil, node, Tree, nodes_f, nodes_t, WellFormed}
 use Rattle.tree.specs.Context.{Context, top, down, over, plug, depth, before}
 use Rattle.slots.specs.Layout.{nodes_of, start_of, len_of, span_of}
-use Rattle.slots.specs.Records.{Rec, rec_at, run, node_rec, root_rec}
+use Rattle.slots.specs.Records.{rec_at, run, node_rec, root_rec}
 use Rattle.slots.specs.Bare.{Bare, bare_at, bares_from, node_bare, bares_f, root_bare, bares_t}
 use Rattle.splice.specs.Splice.{reach, Linked}
 use Rattle.pool.specs.Pool.{pool_tree}
 use Rattle.pool.specs.Rule.{Lengths}
-use Rattle.slots.proofs.Runs.{Parts, run_cons, run_join, run_length, run-whole, run_parts, run_ext, append_parts}
+use Rattle.slots.proofs.Runs.{run_cons, run_join, run_length, run-whole, run_parts, append_parts}
 use Rattle.slots.proofs.Slots.{bare_of_lem}
 use Rattle.pool.proofs.Stands.{Stands, Holds, nodes_are}
-use Rattle.pool.proofs.Held.{SlotIs, slot-is_rec, holds-tree}
+use Rattle.pool.proofs.Held.{holds-tree}
 use Rattle.splice.proofs.Reach.{reach-none, reach-on, reach-stop, reach-at}
 
 pub bares_f-length : (s : ℕ) (f : Forest) → length (bares_f s f) ≡ nodes_f f

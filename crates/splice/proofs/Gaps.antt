@@ -1,19 +1,19 @@
 -- Gaps closed in one sweep. Assumes nothing.
 use mathlib.Core.Path.{◌≡◌, refl, sym, ap, ◌∙◌, subst}
-use mathlib.Core.List.{List, [], ◌∷◌, ◌++◌, append_assoc, append-nil}
+use mathlib.Core.List.{List, [], ◌∷◌, ◌++◌, append-nil}
 use Prim.Native.Nat.{ℕ, zero, suc, ◌+◌, ◌*◌, ◌-◌, ◌≤◌, ◌<◌}
 use native.Mathlib.Omega.{arith}
 use mathlib.Core.Logic.{⊎_elim}
-use lib.ListN.{length, get_or, take, drop}
+use lib.ListN.{length, take, drop}
 use lib.Seq.{take-take}
 use Rattle.tree.specs.Tree.{Forest, nil, node}
 use Rattle.label.specs.Runs.{MovedDown}
-use Rattle.label.proofs.Moves.{by_lt, by_eq}
+use Rattle.label.proofs.Moves.{by_lt}
 use Rattle.slots.specs.Layout.{SameHead, slot_words, label_room, words_for, bytes_for, WordsIn, RoomIn, field_at, span_field, len_of}
 use Rattle.slots.specs.Records.{run}
 use Rattle.slots.specs.Bare.{Bare, bare_at, bares_from, node_bare, bares_f, Filled}
 use Rattle.splice.specs.Splice.{LabelIn, keep_if, solid, Swept, gone, kept, Closed}
-use Rattle.slots.proofs.Runs.{run_join, run_cons, run_ext}
+use Rattle.slots.proofs.Runs.{run_join, run_ext}
 use Rattle.slots.proofs.Slots.{bare_eq, bare_by, block_eq, at_place}
 
 keep_append : (m : ℕ) (x : Bare) (xs ys : List Bare) → keep_if m x (xs ++ ys) ≡ keep_if m x xs ++ ys

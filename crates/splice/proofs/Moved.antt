@@ -1,12 +1,12 @@
 -- Slots moved up, and a splice settled: what each slot says afterwards. Assumes nothing.
 use mathlib.Core.Path.{◌≡◌, refl, ap, ◌∙◌}
 use mathlib.Core.List.{List}
-use Prim.Native.Nat.{ℕ, ◌+◌, ◌*◌, ◌≤◌, ◌<◌}
+use Prim.Native.Nat.{ℕ, ◌+◌, ◌*◌, ◌≤◌}
 use native.Mathlib.Omega.{arith}
 use lib.ListN.{length, get_or, set, length-set}
 use lib.Seq.{get_or-set_same, get_or-set_other}
 use Rattle.label.specs.Runs.{MovedUp}
-use Rattle.slots.specs.Layout.{slot_words, label_room, nodes_word, words_for, bytes_for, field_at, span_field}
+use Rattle.slots.specs.Layout.{slot_words, words_for, bytes_for, field_at, span_field}
 use Rattle.slots.proofs.Slots.{SameWords, block_eq, bare_eq, at_place}
 use Rattle.splice.specs.Splice.{Relinked, Settled, Room, Moved}
 

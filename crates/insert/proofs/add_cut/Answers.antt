@@ -1,15 +1,9 @@
 -- `insert::add_cut` meets its contract. Assumes nothing.
 use mathlib.Core.Path.{refl, ◌∙◌}
-use Rattle.insert.proofs.Asks.{then, when_moved, when_filled, counted, slot-fits, here, cut_below, cut-within, next_in, next_last, cut_moves, keeps_front, keeps_back, settles}
+use Rattle.insert.proofs.Asks.{then, when_moved, when_filled, here, cut_below, cut-within, next_last, keeps_front, keeps_back, settles}
 use Rattle.insert.proofs.Places.{cut-lower, cut_two}
 use Rattle.insert.proofs.Room.{placed_grown}
 use Rattle.insert.proofs.add_cut.Goals as goal
-
-pub overflow_add-lower : goal.overflow_add-lower
-overflow_add-lower c = let p = c.requires in slot-fits p.0 _ (next_in p.0 p.1)
-
-pub move_slots-requires : goal.move_slots-requires
-move_slots-requires c = let p = c.requires in cut_moves p.0 p.1
 
 pub keep_front-requires : goal.keep_front-requires
 keep_front-requires c =
@@ -23,9 +17,6 @@ keep_back-requires c =
     let p = c.requires in
     let f = here p.0 (when_moved m) (cut-within p.0 p.1) c.keep_front.ensures.0 in
     keeps_back p.0 p.1 (then (when_filled f) (when_moved m)) (cut-lower p.0 p.1 m f) (next_last p.0 p.1)
-
-pub overflow_add-n : goal.overflow_add-n
-overflow_add-n c = counted c.requires.0
 
 pub settle_at-requires : goal.settle_at-requires
 settle_at-requires c =

@@ -3,13 +3,8 @@ use mathlib.Core.Path.{ap}
 use native.Mathlib.Omega.{arith}
 use lib.ListN.{length}
 use Rattle.slots.proofs.Cuts.{label-length}
-use Rattle.insert.proofs.Room.{side_is}
-use borrow.Author.Rules.{rules}
 use Rattle.insert.proofs.byte_below.Goals as goal
 
 pub bounds-label-m : goal.bounds-label-m
 bounds-label-m c =
     omega (arith, ap length c.label_at-label.ensures, label-length c.args.words.now c.args.labels.now c.args.at.0 (omega arith) (omega arith))
-
-pub returns : goal.returns
-returns c = let a = c.args in side_is a.words.now a.labels.now a.at.0 a.m a.rest.now _ c.label_at-label.ensures

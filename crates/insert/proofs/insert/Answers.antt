@@ -1,9 +1,7 @@
 -- `insert::insert` meets its contract. Assumes nothing.
 use native.Mathlib.Omega.{arith}
-use borrow.Author.Tests.{not-true, not-false}
 use Rattle.tree.specs.Key.{key_max}
 use Rattle.insert.proofs.Grown.{insert-refused, insert_long}
-use borrow.Author.Rules.{rules}
 use Rattle.insert.proofs.insert.Goals as goal
 
 pub returns-then-not-is_pool : goal.returns-then-not-is_pool

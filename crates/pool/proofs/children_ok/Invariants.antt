@@ -1,10 +1,6 @@
 -- `pool::children_ok` meets its contract: the rest of the chain is right where the whole is. Assumes nothing.
 use Prim.Native.Nat.{◌-◌}
-use native.Mathlib.Omega.{arith}
-use borrow.Author.Tests.{not-true, not-false}
-use Rattle.pool.specs.Rule.{done, child}
-use Rattle.pool.proofs.Test.{says_yes, says_no}
-use Rattle.pool.proofs.Kin.{Along, first-child, later_children, children_from}
+use Rattle.pool.proofs.Kin.{Along}
 use Rattle.pool.proofs.children_ok.Given as goal
 
 abbrev pub invariant-loop-c : goal.invariant-loop-c

@@ -4,7 +4,6 @@ use Rattle.tree.proofs.Order.{none-some}
 use Rattle.pool.proofs.Test.{says_no}
 use Rattle.pool.proofs.Decode.{lengths-right}
 use Rattle.pool.proofs.Decode.{slots_of_lem as right_slots}
-use borrow.Author.Rules.{rules}
 use Rattle.pool.proofs.is_pool.Goals as goal
 
 pub tree_ok-requires : goal.tree_ok-requires

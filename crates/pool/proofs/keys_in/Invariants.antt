@@ -1,10 +1,7 @@
 -- `pool::keys_in` meets its contract: the keys counted are those of the slots passed. Assumes nothing.
-use mathlib.Core.Path.{ap, ◌∙◌}
 use mathlib.Core.Path.{◌≡◌}
 use Prim.Native.Nat.{◌≤◌, ◌-◌}
-use native.Mathlib.Omega.{arith}
 use Rattle.pool.specs.Fields.{has_sum}
-use Rattle.pool.proofs.Sums.{sum_more}
 use Rattle.pool.proofs.keys_in.Given as goal
 
 abbrev pub invariant-loop-i : goal.invariant-loop-i

@@ -3,7 +3,6 @@ use mathlib.Core.Path.{sym}
 use native.Mathlib.Omega.{arith}
 use Rattle.pool.proofs.Decode.{lengths-right}
 use Rattle.pool.proofs.Answers.{make_refused, make_done}
-use borrow.Author.Rules.{rules}
 use Rattle.pool.proofs.make.Goals as goal
 
 pub returns-in_default : goal.returns-in_default

@@ -3,7 +3,6 @@ use native.Mathlib.Omega.{arith}
 use Rattle.pool.proofs.Test.{says_no, says_same}
 use Rattle.pool.proofs.Ruled.{children_at}
 use Rattle.tree.specs.Key.{key_max}
-use borrow.Author.Rules.{rules}
 use Rattle.pool.proofs.node_ok.Goals as goal
 
 pub returns : goal.returns
@@ -14,14 +13,5 @@ returns c =
     (λ f. children_at (omega arith) (omega arith) f.kids)
     c.children_ok.ensures)
 
-pub returns-then-has_at-gt1 : goal.returns-then-has_at-gt1
-returns-then-has_at-gt1 c = says_no (λ f. omega arith)
-
 pub returns-then-base-gt-KEY_MAX : goal.returns-then-base-gt-KEY_MAX
 returns-then-base-gt-KEY_MAX c = unfold key_max in says_no (λ f. omega arith)
-
-pub returns-then-s-lt1 : goal.returns-then-s-lt1
-returns-then-s-lt1 c = says_no (λ f. omega arith)
-
-pub returns-then-n-i : goal.returns-then-n-i
-returns-then-n-i c = says_no (λ f. omega arith)

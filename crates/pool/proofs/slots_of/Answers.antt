@@ -3,7 +3,6 @@ use mathlib.Core.Path.{sym}
 use native.Mathlib.Omega.{arith}
 use Rattle.pool.proofs.Decode.{no-slots}
 use Rattle.pool.proofs.Decode.{slots_of_lem as right_slots}
-use borrow.Author.Rules.{rules}
 use Rattle.pool.proofs.slots_of.Goals as goal
 
 pub returns-then-slots-lt1 : goal.returns-then-slots-lt1

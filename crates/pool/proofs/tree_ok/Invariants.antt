@@ -1,11 +1,6 @@
 -- `pool::tree_ok` meets its contract: the slots passed are right as nodes. Assumes nothing.
 use Prim.Native.Nat.{ℕ, ◌≤◌, ◌<◌, ◌-◌}
-use native.Mathlib.Omega.{arith}
-use borrow.Author.Count.{below_more}
-use borrow.Author.Tests.{not-true, not-false}
 use Rattle.pool.specs.Rule.{NodeAt}
-use Rattle.pool.proofs.Test.{says_yes, says_no}
-use Rattle.pool.proofs.Kin.{node_of}
 use Rattle.pool.proofs.tree_ok.Given as goal
 
 abbrev pub invariant-loop-i : goal.invariant-loop-i

@@ -4,7 +4,6 @@ use mathlib.Core.List.{List}
 use Prim.Native.Nat.{ℕ}
 use Rattle.slots.specs.Put.{words_put}
 use Rattle.pool.specs.Fields.{fresh_root, emptied}
-use borrow.Author.Rules.{rules}
 use Rattle.pool.proofs.write_empty.Goals as goal
 
 pub returns : goal.returns

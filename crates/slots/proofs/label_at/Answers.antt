@@ -1,7 +1,6 @@
 -- `slots::label_at` meets its contract. Assumes nothing.
 use native.Mathlib.Omega.{arith}
 use Rattle.slots.proofs.Cuts.{label-part}
-use borrow.Author.Rules.{rules}
 use Rattle.slots.proofs.label_at.Goals as goal
 
 pub returns : goal.returns

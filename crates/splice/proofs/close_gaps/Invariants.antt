@@ -1,7 +1,6 @@
 -- `splice::close_gaps` meets its contract: the slots passed stand close together. Assumes nothing.
 use Prim.Native.Nat.{◌≤◌, ◌-◌}
-use native.Mathlib.Omega.{arith}
-use Rattle.splice.proofs.Gaps.{Sweeping, sweep_none, sweep_on, sweep_done}
+use Rattle.splice.proofs.Gaps.{Sweeping}
 use Rattle.splice.proofs.close_gaps.Given as goal
 
 abbrev pub invariant-loop-i : goal.invariant-loop-i

@@ -1,19 +1,11 @@
 -- `splice::extent` meets its contract: the walk has passed what belongs to the slot. Assumes nothing.
-use Prim.Native.Nat.{◌-◌}
 use native.Mathlib.Omega.{arith}
-use Rattle.splice.proofs.Reach.{Walked, walk_start, walk-on, walk-stop, walk_end, extent_is}
+use Rattle.splice.proofs.Reach.{walk-on, walk-stop, walk_end, extent_is}
 use Rattle.splice.proofs.extent.Goals as goal
 
 pub returns-then-start_at-base : goal.returns-then-start_at-base
 returns-then-start_at-base c =
     extent_is _ _ _ _ _ (omega arith) (walk-stop _ _ _ _ _ (omega arith) c.loop-j.invariant) (omega arith) (omega arith)
-
-pub overflow_add-j-in-loop-j : goal.overflow_add-j-in-loop-j
-overflow_add-j-in-loop-j c =
-    omega (arith, walk-on _ _ _ _ _ _ c.requires.3 (omega arith) (omega arith) c.span_at-j.ensures.0 c.loop-j.invariant)
-
-pub loop-j-smaller : goal.loop-j-smaller
-loop-j-smaller c = omega (arith, c.requires.3 c.loop-j.j (omega arith) (omega arith))
 
 pub loop-j-preserved : goal.loop-j-preserved
 loop-j-preserved c =
@@ -22,6 +14,3 @@ loop-j-preserved c =
 pub returns : goal.returns
 returns c =
     extent_is _ _ _ _ _ (omega arith) (walk_end _ _ _ _ _ (omega arith) c.loop-j.invariant) (omega arith) (omega arith)
-
-pub loop-j-init : goal.loop-j-init
-loop-j-init c = walk_start _ _ _ _ (omega arith)

@@ -1,7 +1,6 @@
 -- `splice::extent` meets its contract: the walk has passed what belongs to the slot. Assumes nothing.
 use Prim.Native.Nat.{◌-◌}
-use native.Mathlib.Omega.{arith}
-use Rattle.splice.proofs.Reach.{Walked, walk_start, walk-on, walk-stop, walk_end, extent_is}
+use Rattle.splice.proofs.Reach.{Walked}
 use Rattle.splice.proofs.extent.Given as goal
 
 abbrev pub invariant-loop-j : goal.invariant-loop-j

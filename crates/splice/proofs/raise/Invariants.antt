@@ -1,7 +1,6 @@
 -- `splice::raise` meets its contract: the spans of the slots passed are right. Assumes nothing.
 use Prim.Native.Nat.{◌-◌}
-use native.Mathlib.Omega.{arith}
-use Rattle.splice.proofs.Spans.{Raising, raising_none, raising_on, raising_done}
+use Rattle.splice.proofs.Spans.{Raising}
 use Rattle.splice.proofs.raise.Given as goal
 
 abbrev pub invariant-loop-c : goal.invariant-loop-c

@@ -1,7 +1,6 @@
 -- `splice::relink` meets its contract: the spans of the slots passed are right. Assumes nothing.
 use Prim.Native.Nat.{◌≤◌}
-use native.Mathlib.Omega.{arith}
-use Rattle.splice.proofs.Reach.{Linking, linking_none, linking_step, linking_done}
+use Rattle.splice.proofs.Reach.{Linking}
 use Rattle.splice.proofs.relink.Given as goal
 
 abbrev pub invariant-loop-i : goal.invariant-loop-i

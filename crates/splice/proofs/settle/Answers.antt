@@ -1,7 +1,6 @@
 -- `splice::settle` meets its contract. Assumes nothing.
 use native.Mathlib.Omega.{arith}
 use Rattle.splice.proofs.Moved.{settled}
-use borrow.Author.Rules.{rules}
 use Rattle.splice.proofs.settle.Goals as goal
 
 pub returns : goal.returns

@@ -1,16 +1,8 @@
 -- `splice::settle_at` meets its contract. Assumes nothing.
-use lib.ListN.{length-set}
 use native.Mathlib.Omega.{arith}
 use Rattle.splice.proofs.Moved.{settled}
-use Rattle.splice.proofs.Spans.{counted, loose-counted}
-use borrow.Author.Rules.{rules}
+use Rattle.splice.proofs.Spans.{counted}
 use Rattle.splice.proofs.settle_at.Goals as goal
-
-pub raise-requires : goal.raise-requires
-raise-requires c =
-    let put = c.set_nodes.ensures in
-    let n = counted c.args.words.now _ c.args.n c.args.at.0 c.args.k put (omega arith) in
-    (omega arith, omega arith, loose-counted _ _ _ _ _ put (omega arith) c.requires.2)
 
 pub returns : goal.returns
 returns c =

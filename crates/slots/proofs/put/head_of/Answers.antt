@@ -2,7 +2,6 @@
 use mathlib.Core.Path.{refl, ap}
 use Rattle.slots.specs.Bare.{stored_of}
 use Rattle.slots.proofs.Slots.{nothing_has, number-has}
-use borrow.Author.Rules.{rules}
 use Rattle.slots.proofs.put.head_of.Goals as goal
 
 pub returns-in-Nothing : goal.returns-in-Nothing

@@ -2,7 +2,6 @@
 use native.Mathlib.Omega.{arith}
 use Rattle.slots.proofs.Slots.{head-kept}
 use Rattle.slots.proofs.Cuts.{back-kept}
-use borrow.Author.Rules.{rules}
 use Rattle.slots.proofs.put.keep_back.Goals as goal
 
 pub returns : goal.returns

@@ -2,7 +2,6 @@
 use mathlib.Core.Path.{ap}
 use Rattle.slots.specs.Bare.{stored_of}
 use Rattle.slots.proofs.Slots.{fields_set, head-set, nothing_has, number-has}
-use borrow.Author.Rules.{rules}
 use Rattle.slots.proofs.put.put_head.Goals as goal
 
 pub returns-in-Nothing : goal.returns-in-Nothing

@@ -1,6 +1,5 @@
 -- `slots::put::put_label` meets its contract: the label stands in the place of as many bytes. Assumes nothing.
 use Rattle.slots.proofs.Puts.{label-put}
-use borrow.Author.Rules.{rules}
 use Rattle.slots.proofs.put.put_label.Goals as goal
 
 pub returns : goal.returns

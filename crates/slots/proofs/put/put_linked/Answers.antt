@@ -1,6 +1,5 @@
 -- `slots::put::put_linked` meets its contract: a slot put is a slot filled. Assumes nothing.
 use Rattle.slots.proofs.Puts.{slot-filled}
-use borrow.Author.Rules.{rules}
 use Rattle.slots.proofs.put.put_linked.Goals as goal
 
 pub returns : goal.returns

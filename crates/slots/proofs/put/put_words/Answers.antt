@@ -1,7 +1,6 @@
 -- `slots::put::put_words` meets its contract: five fields are set, one after another. Assumes nothing.
 use Rattle.slots.proofs.Slots.{fields_set}
 use Rattle.slots.proofs.Puts.{words-set}
-use borrow.Author.Rules.{rules}
 use Rattle.slots.proofs.put.put_words.Goals as goal
 
 pub returns : goal.returns

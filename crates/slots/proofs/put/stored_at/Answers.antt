@@ -1,7 +1,6 @@
 -- `slots::put::stored_at` meets its contract. Assumes nothing.
 use native.Mathlib.Omega.{arith}
 use Rattle.slots.proofs.Cuts.{stored_none, stored_some}
-use borrow.Author.Rules.{rules}
 use Rattle.slots.proofs.put.stored_at.Goals as goal
 
 pub returns : goal.returns

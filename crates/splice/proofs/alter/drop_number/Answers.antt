@@ -1,7 +1,6 @@
 -- `splice::alter::drop_number` meets its contract. Assumes nothing.
 use native.Mathlib.Omega.{arith}
 use Rattle.splice.proofs.Altered.{number_dropped}
-use borrow.Author.Rules.{rules}
 use Rattle.splice.proofs.alter.drop_number.Goals as goal
 
 pub returns : goal.returns

@@ -1,7 +1,6 @@
 -- `splice::alter::open_gap` meets its contract. Assumes nothing.
 use native.Mathlib.Omega.{arith}
 use Rattle.splice.proofs.Altered.{gap_opened}
-use borrow.Author.Rules.{rules}
 use Rattle.splice.proofs.alter.open_gap.Goals as goal
 
 pub returns : goal.returns

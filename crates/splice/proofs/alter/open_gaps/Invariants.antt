@@ -1,11 +1,9 @@
 -- `splice::alter::open_gaps` meets its contract: the slots passed are gaps. Assumes nothing.
-use mathlib.Core.Path.{◌≡◌, refl}
+use mathlib.Core.Path.{◌≡◌}
 use mathlib.Core.List.{List}
-use Prim.Native.Nat.{ℕ, ◌*◌, ◌≤◌, ◌-◌}
-use native.Mathlib.Omega.{arith}
+use Prim.Native.Nat.{ℕ, ◌≤◌, ◌-◌}
 use lib.ListN.{length}
 use Rattle.splice.specs.Altered.{Emptied}
-use Rattle.splice.proofs.Altered.{gaps-none, gaps-more, gaps-done}
 use Rattle.slots.specs.Layout.{bytes_for}
 use Rattle.splice.proofs.alter.open_gaps.Given as goal
 
