@@ -1,29 +1,29 @@
 -- The number taken at the key's slot: what is tidied from there, and what the call then tells and leaves. Assumes nothing.
 use mathlib.Core.Path.{◌≡◌, refl, sym, ap, ◌∙◌}
-use mathlib.Core.List.{List, [], ◌∷◌, ◌++◌, append-nil}
-use mathlib.Core.Option.{Option, none, some}
-use Prim.Native.Nat.{ℕ, zero, suc, ◌+◌, ◌*◌, ◌-◌, ◌≤◌, ◌<◌}
+use mathlib.Core.List.{List, [], ◌∷◌, append-nil}
+use mathlib.Core.Option.{none, some}
+use Prim.Native.Nat.{ℕ, suc, ◌+◌, ◌≤◌, ◌<◌}
 use native.Mathlib.Omega.{arith}
 use lib.ListN.{length}
-use Rattle.tree.specs.Key.{Key, Bytes, key_max, strip}
+use Rattle.tree.specs.Key.{Key, strip}
 use Rattle.tree.specs.Map.{Num}
-use Rattle.tree.specs.Tree.{Forest, nil, node, Tree, Wf, nodes_f, keys_w}
+use Rattle.tree.specs.Tree.{Forest, node, Tree, nodes_f, keys_w}
 use Rattle.tree.specs.Search.{get_t}
 use Rattle.tree.specs.Remove.{settle, erase_f, erase_t, if_stored, remove_t}
-use Rattle.tree.specs.Told.{Told, done, refusal, refusal_at}
+use Rattle.tree.specs.Told.{done, refusal, refusal_at}
 use Rattle.tree.specs.Image.{numbers_w}
 use Rattle.tree.specs.Calls.{remove_told, remove_call}
-use Rattle.tree.specs.Context.{Context, plug, depth, before, settled}
+use Rattle.tree.specs.Context.{plug, depth, settled}
 use Rattle.tree.proofs.Parts.{strip-append}
 use Rattle.tree.proofs.RemoveFind.{erase_f-here}
 use Rattle.tree.proofs.RemoveWf.{erase-wf}
 use Rattle.tree.proofs.Context.{erase-plug}
-use Rattle.slots.specs.Layout.{WordsIn, RoomIn, nodes_of, start_of, len_of, span_of, num_at}
+use Rattle.slots.specs.Layout.{WordsIn, RoomIn, nodes_of, span_of, num_at}
 use Rattle.slots.specs.Records.{node_rec, root_rec}
-use Rattle.pool.specs.Pool.{pool_tree, slots_of}
+use Rattle.pool.specs.Pool.{pool_tree}
 use Rattle.pool.specs.Rule.{PoolRule}
 use Rattle.pool.specs.Post.{Meets}
-use Rattle.slots.specs.Bare.{Bare, bare_at, node_bare, root_bare}
+use Rattle.slots.specs.Bare.{bare_at, node_bare, root_bare}
 use Rattle.splice.specs.Altered.{numberless, Altered}
 use Rattle.pool.proofs.Decode.{slots_stay}
 use Rattle.pool.proofs.Answers.{no-rule}
@@ -37,8 +37,7 @@ use Rattle.search.specs.declared.Descent.{Descent}
 use Rattle.search.specs.Landing.{Place, PlaceOf}
 use Rattle.search.proofs.Places.{plug_stands, plug-nodes, nodes-node}
 use Rattle.search.proofs.Answers.{got_at, AtSlot, place-within, get_place, fits_not, fits_well, Known, tree, tree_is, holds, looked-is, place}
-use Rattle.tidy.specs.Sparse.{Sparse}
-use Rattle.tidy.specs.Climb.{Kept, Site, Way, reached, rising, Stage, Climbing, Tidied}
+use Rattle.tidy.specs.Climb.{Kept, reached, rising, Stage, Climbing, Tidied}
 use Rattle.tidy.proofs.Sparse.{Same, stands_sparse}
 use Rattle.tidy.proofs.Rise.{parent-below}
 use Rattle.tidy.proofs.Stage.{kept_one}
@@ -192,7 +191,7 @@ module _ {ws bs : List ℕ} {at looked : ℕ} (x : Found ws bs at looked) where
   stored v vs us ds e a d =
       let h = found-holds in
       rw (x.is, fits_well x.key x.short, remove_call, found_number, ← e, if_stored, remove_told, ← x.looked-is)
-      (record { said = refl; tree = d.tree; slots = slots_stay ws bs us ds h.slots (d.len_w ∙ a.filled.len_w) d.len_b h.lengths })
+      (record { said = rw (found_number, ← e) refl; tree = d.tree; slots = slots_stay ws bs us ds h.slots (d.len_w ∙ a.filled.len_w) d.len_b h.lengths })
 
 -- The search has ended at the key's slot, or elsewhere: then no key is there.
 module _ {ws bs key : List ℕ} {d : Descent} (w : Known ws bs key d) where

@@ -1,7 +1,6 @@
 -- Where a search ends is a function of the tree and the key: so what `descend` ensures fixes its answer. Assumes nothing.
-use mathlib.Core.Path.{◌≡◌, refl, sym, ap, ◌∙◌}
-use mathlib.Core.List.{List, [], ◌∷◌, ◌++◌}
-use mathlib.Core.Option.{Option, none, some}
+use mathlib.Core.Path.{◌≡◌, refl, sym, ◌∙◌}
+use mathlib.Core.List.{[], ◌∷◌, ◌++◌}
 use Prim.Native.Nat.{Ordering}
 use Prim.Native.Nat.{ℕ, suc, ◌+◌, ◌<◌, compare}
 use lib.ListN.{length}
@@ -15,7 +14,7 @@ use Rattle.tree.proofs.Parts.{part_same, part-key_ends, part-label_ends, part-fo
 use Rattle.search.specs.declared.Stop.{Stop}
 use Rattle.search.specs.declared.Best.{Best}
 use Rattle.search.specs.declared.Descent.{Descent}
-use Rattle.search.specs.Landing.{descent_of, best_of, Ends, Place, PlaceOf, Lands}
+use Rattle.search.specs.Landing.{descent_of, best_of, Ends, PlaceOf, Lands}
 
 -- A search's end: how, at which slot, below which, behind how many bytes
 pub record End : Type 0 where

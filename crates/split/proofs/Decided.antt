@@ -1,6 +1,5 @@
 -- Split's contract decides its answer and what is left in both pools. Assumes nothing.
 use mathlib.Core.Path.{◌≡◌, sym, ap, ◌∙◌}
-use Prim.Native.Nat.{ℕ}
 use Rattle.tree.specs.Key.{Key}
 use Rattle.tree.specs.Told.{Told, divided_told}
 use Rattle.tree.specs.Calls.{SplitOutcome, refuses_both, leaves_both, split_call}

@@ -1,27 +1,25 @@
 -- What split tells and leaves, from where the search has ended. Assumes nothing.
 use mathlib.Core.Path.{◌≡◌, refl, sym, ap, ◌∙◌}
-use mathlib.Core.Bool.{true, false}
 use mathlib.Core.List.{List, [], ◌∷◌, ◌++◌}
-use mathlib.Core.Option.{Option, none, some}
-use Prim.Native.Nat.{ℕ, zero, suc, ◌+◌, ◌*◌, ◌-◌, ◌≤◌, ◌<◌}
+use mathlib.Core.Option.{none, some}
+use Prim.Native.Nat.{ℕ, suc, ◌+◌, ◌≤◌, ◌<◌}
 use native.Mathlib.Omega.{arith}
 use lib.ListN.{length, length-append}
-use lib.Dec.{leb}
 use borrow.Author.Tests.{le-leb, lt-leb}
 use Rattle.tree.specs.Key.{Key, Bytes, key_max, part, fork}
 use Rattle.tree.specs.Map.{Num}
 use Rattle.tree.specs.Tree.{Forest, nil, node, Tree, empty, Above, Wf, nodes_f, nodes_t, WellFormed}
-use Rattle.tree.specs.Split.{detach_f, leave_f, Halves, absent, halves, with, split_t}
+use Rattle.tree.specs.Split.{detach_f, leave_f, absent, halves, with, split_t}
 use Rattle.tree.specs.Told.{Told, done, refusal}
 use Rattle.tree.specs.Calls.{split_told, split_call}
-use Rattle.tree.specs.Context.{Context, plug, depth, before, parent, Leads, settled}
+use Rattle.tree.specs.Context.{Context, plug, depth, before, parent, settled}
 use Rattle.tree.proofs.Parts.{part_same, part-key_ends, part-fork}
 use Rattle.tree.proofs.SplitFind.{detach_f_lt, detach_f-same, detach_f-key_ends, detach_f-fork, leave_f-same, leave_f-key_ends}
 use Rattle.tree.proofs.SplitWf.{split_wf}
 use Rattle.tree.proofs.Context.{detach_plug, leave_plug}
 use Rattle.slots.specs.Layout.{WordsIn, nodes_of, start_of, len_of, span_of}
 use Rattle.pool.specs.Pool.{pool_tree, slots_of}
-use Rattle.pool.specs.Rule.{Within, Lengths, PoolRule}
+use Rattle.pool.specs.Rule.{Lengths, PoolRule}
 use Rattle.pool.specs.Fields.{emptied}
 use Rattle.pool.proofs.Decode.{slots_of_lem, slots_stay}
 use Rattle.pool.proofs.Sums.{emptied-tree, emptied-slots}
@@ -32,12 +30,12 @@ use Rattle.slots.specs.Records.{node_rec}
 use Rattle.pool.proofs.Held.{slot-is_rec, tree-holds}
 use Rattle.search.specs.declared.Stop.{Stop}
 use Rattle.search.specs.declared.Descent.{Descent}
-use Rattle.search.specs.Landing.{Place, PlaceOf}
+use Rattle.search.specs.Landing.{PlaceOf}
 use Rattle.search.proofs.Places.{plug_stands, plug-wf, plug-nodes, nodes-node}
 use Rattle.search.proofs.Answers.{fits_not, fits_well, Known, tree, tree_is, place}
 use Rattle.tidy.specs.Climb.{Tidied}
 use Rattle.split.specs.Lift.{Detached, DetachedBelow}
-use Rattle.split.specs.Post.{StayBoth, LeaveBoth, MeetBoth}
+use Rattle.split.specs.Post.{StayBoth, MeetBoth}
 use Rattle.split.specs.Halved.{Landed, Detachable, Leaving}
 use Rattle.split.proofs.Trees.{Spot, root_spot, node_spot, spot_detachable, spot_tree, label-tree}
 

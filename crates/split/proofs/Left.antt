@@ -1,16 +1,15 @@
 -- A subtree cut out: its slots are gaps, and the pool is to be tidied from its parent up. Assumes nothing.
 use mathlib.Core.Path.{◌≡◌, refl, sym, ap, ◌∙◌}
-use mathlib.Core.List.{List, [], ◌∷◌, ◌++◌}
-use Prim.Native.Nat.{ℕ, zero, suc, ◌+◌, ◌*◌, ◌-◌, ◌≤◌, ◌<◌}
+use mathlib.Core.List.{List, []}
+use Prim.Native.Nat.{ℕ, zero, suc, ◌+◌, ◌-◌, ◌≤◌, ◌<◌}
 use native.Mathlib.Omega.{arith}
-use native.Mathlib.Decide.{dec_lt}
 use lib.ListN.{length}
-use Rattle.tree.specs.Tree.{Forest, node, Tree, nodes_f}
-use Rattle.tree.specs.Context.{Context, plug, depth, before, parent}
+use Rattle.tree.specs.Tree.{Forest, node, nodes_f}
+use Rattle.tree.specs.Context.{plug, depth, before}
 use Rattle.label.proofs.Moves.{by_lt}
 use Rattle.slots.specs.Layout.{words_for, bytes_for, WordsIn, nodes_of, start_of, len_of, span_of}
-use Rattle.slots.specs.Records.{node_rec, root_rec, run}
-use Rattle.slots.specs.Bare.{Bare, bare_at, bares_from, root_bare}
+use Rattle.slots.specs.Records.{node_rec, root_rec}
+use Rattle.slots.specs.Bare.{bare_at, bares_from, root_bare}
 use Rattle.splice.specs.Splice.{solid}
 use Rattle.splice.specs.Altered.{gap_of, Emptied}
 use Rattle.pool.proofs.Stands.{Stands, Holds, nodes_are}
@@ -20,8 +19,8 @@ use Rattle.slots.proofs.Slots.{bare_of_lem}
 use Rattle.splice.proofs.Gaps.{solid-gap}
 use Rattle.search.proofs.Places.{plug_stands, plug-nodes, nodes-node}
 use Rattle.tidy.specs.Sparse.{Hollow, Sparse, gap}
-use Rattle.tidy.specs.Climb.{Kept, Stage, Climbing, Tidied}
-use Rattle.tidy.proofs.Sparse.{solid-first, solid-none, Same, stands_sparse}
+use Rattle.tidy.specs.Climb.{Kept, Climbing, Tidied}
+use Rattle.tidy.proofs.Sparse.{solid-first, solid-none, stands_sparse}
 use Rattle.tidy.proofs.Rise.{parent-below, Changed, rise}
 use Rattle.split.specs.Halved.{Leaving}
 

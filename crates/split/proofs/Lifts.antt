@@ -1,15 +1,15 @@
 -- Slots carried over into another pool: what stands there then. Assumes nothing.
-use mathlib.Core.Path.{◌≡◌, refl, sym, ap, ◌∙◌}
-use mathlib.Core.List.{List, [], ◌∷◌}
-use mathlib.Core.Option.{none, some}
-use Prim.Native.Nat.{ℕ, zero, suc, ◌+◌, ◌*◌, ◌-◌, ◌≤◌, ◌<◌}
+use mathlib.Core.Path.{◌≡◌, refl, ap, ◌∙◌}
+use mathlib.Core.List.{List, []}
+use mathlib.Core.Option.{none}
+use Prim.Native.Nat.{ℕ, suc, ◌+◌, ◌-◌, ◌≤◌}
 use native.Mathlib.Omega.{arith}
 use lib.ListN.{length, get_or, set, take, drop, length-set, length-take, length-drop}
 use lib.Seq.{get_or-set_same, take_all}
 use Rattle.tree.specs.Tree.{keys_w}
 use Rattle.label.proofs.Moves.{by_lt, by_eq}
 use Rattle.slots.specs.Layout.{nodes_word, WordsIn, start_of, len_of, has_of, number_of, span_of, label_of, num_of, num_at}
-use Rattle.slots.specs.Records.{Rec, rec_at, root_rec}
+use Rattle.slots.specs.Records.{rec_at, root_rec}
 use Rattle.slots.specs.Put.{rec_of, words_put, WordsPut, SlotPut}
 use Rattle.pool.specs.Rule.{Within}
 use Rattle.slots.specs.declared.put.Head.{Head}

@@ -1,25 +1,25 @@
 -- A subtree carried over is a tree of its own. Assumes nothing.
 use mathlib.Core.Path.{◌≡◌, refl, sym, ap, ◌∙◌}
-use mathlib.Core.List.{List, [], ◌∷◌, ◌++◌}
+use mathlib.Core.List.{List, ◌∷◌, ◌++◌}
 use mathlib.Core.Option.{none, some}
-use Prim.Native.Nat.{ℕ, zero, suc, ◌+◌, ◌*◌, ◌-◌, ◌≤◌, ◌<◌}
+use Prim.Native.Nat.{ℕ, suc, ◌+◌, ◌-◌, ◌≤◌, ◌<◌}
 use native.Mathlib.Omega.{arith}
 use lib.ListN.{length, drop, length-append}
 use lib.Seq.{drop_at}
 use Rattle.tree.specs.Key.{Key, key_max}
 use Rattle.tree.specs.Map.{Num}
-use Rattle.tree.specs.Tree.{Forest, nil, node, Tree, Wf, room, nodes_f, nodes_t, keys_w, WellFormed}
+use Rattle.tree.specs.Tree.{Forest, nil, node, Tree, Wf, room, nodes_f, keys_w, WellFormed}
 use Rattle.label.proofs.Moves.{by_lt, by_eq}
 use Rattle.slots.specs.Layout.{nodes_of, start_of, len_of, has_of, span_of, num_at}
-use Rattle.slots.specs.Records.{Rec, rec_at, node_rec, root_rec}
+use Rattle.slots.specs.Records.{rec_at, node_rec, root_rec}
 use Rattle.pool.specs.Pool.{pool_tree}
-use Rattle.pool.specs.Rule.{Within, Lengths}
+use Rattle.pool.specs.Rule.{Lengths}
 use Rattle.pool.proofs.Decode.{lengths_stay}
 use Rattle.pool.proofs.Stands.{Stands, Holds, nodes_are}
 use Rattle.pool.proofs.Held.{slot-is_rec, holds-tree}
 use Rattle.search.proofs.Places.{nodes-node}
 use Rattle.tidy.proofs.Rise.{stands_deep}
-use Rattle.split.specs.Lift.{lowered, topped, Liftable, Detached, DetachedBelow}
+use Rattle.split.specs.Lift.{lowered, topped, Detached, DetachedBelow}
 use Rattle.split.specs.Halved.{Detachable}
 
 -- A forest carried over stands there, under a path that is shorter by `base` bytes.

@@ -1,28 +1,23 @@
 -- From a slot up to the root: which slot is the parent, and what the slots hold once a node on the way is settled. Assumes
 -- nothing.
-use mathlib.Core.Path.{◌≡◌, refl, sym, ap, ◌∙◌, subst}
+use mathlib.Core.Path.{◌≡◌, refl, ap, ◌∙◌}
 use mathlib.Core.Logic.{◌⊎◌, inl, inr}
-use mathlib.Core.List.{List, [], ◌∷◌, ◌++◌}
-use mathlib.Core.Option.{some}
-use Prim.Native.Nat.{ℕ, zero, suc, ◌+◌, ◌*◌, ◌-◌, ◌≤◌, ◌<◌}
+use mathlib.Core.List.{List}
+use Prim.Native.Nat.{ℕ, suc, ◌+◌, ◌-◌, ◌≤◌, ◌<◌}
 use native.Mathlib.Omega.{arith}
 use lib.ListN.{length}
-use Rattle.tree.specs.Key.{Key}
-use Rattle.tree.specs.Map.{Num}
-use Rattle.tree.specs.Tree.{Forest, nil, node, Tree, nodes_f, nodes_t}
-use Rattle.tree.specs.Remove.{settle}
+use Rattle.tree.specs.Tree.{Forest, nil, node, nodes_f}
 use Rattle.tree.specs.Context.{Context, top, down, over, plug, depth, before, parent, settled}
 use Rattle.label.proofs.Moves.{by_lt, by_eq}
-use Rattle.slots.specs.Layout.{bytes_for, RoomIn, nodes_of, start_of, len_of, span_of}
+use Rattle.slots.specs.Layout.{bytes_for, RoomIn, nodes_of, start_of, span_of}
 use Rattle.slots.specs.Records.{node_rec}
-use Rattle.slots.specs.Bare.{bare_at, node_bare}
-use Rattle.pool.proofs.Stands.{Stands, Holds, nodes_are, stands_at}
+use Rattle.slots.specs.Bare.{bare_at}
+use Rattle.pool.proofs.Stands.{Stands}
 use Rattle.pool.proofs.Held.{slot-is_rec}
-use Rattle.splice.proofs.Bares.{start_is}
 use Rattle.search.proofs.Places.{plug_stands, plug-nodes, nodes-node}
-use Rattle.tidy.specs.Sparse.{Sparse, full, Ripe, Ready, Inside, NodeSettled, Parent}
-use Rattle.tidy.specs.Climb.{Kept, Site, Way, reached, rising, Stage, Climbing}
-use Rattle.tidy.proofs.Sparse.{Same, stands_solid, stands_sparse}
+use Rattle.tidy.specs.Sparse.{Sparse, full, Parent}
+use Rattle.tidy.specs.Climb.{Way, reached, rising}
+use Rattle.tidy.proofs.Sparse.{stands_solid}
 
 -- The slots above r, up to m, start at `start` or deeper.
 pub record Scanned (ws : List ℕ) (start m r : ℕ) : Type 0 where

@@ -1,9 +1,8 @@
 -- A node settled in its slot, in each of the ways that the code tells apart. Assumes nothing.
-use mathlib.Core.Path.{◌≡◌, refl, sym, ap, ◌∙◌, subst}
-use mathlib.Core.Bool.{true, false}
-use mathlib.Core.List.{List, [], ◌∷◌, ◌++◌, append-nil}
-use mathlib.Core.Option.{Option, none, some}
-use Prim.Native.Nat.{ℕ, zero, suc, ◌+◌, ◌*◌, ◌-◌, ◌≤◌, ◌<◌}
+use mathlib.Core.Path.{◌≡◌, refl, sym, ap, ◌∙◌}
+use mathlib.Core.List.{List, ◌∷◌, ◌++◌, append-nil}
+use mathlib.Core.Option.{none, some}
+use Prim.Native.Nat.{ℕ, suc, ◌+◌, ◌-◌, ◌≤◌, ◌<◌}
 use native.Mathlib.Omega.{arith}
 use lib.ListN.{length, length-append}
 use borrow.Author.Tests.{le-leb, lt-leb}
@@ -12,17 +11,17 @@ use Rattle.tree.specs.Map.{Num}
 use Rattle.tree.specs.Tree.{Forest, nil, node, room, keys_w}
 use Rattle.tree.specs.Remove.{joins, settle}
 use Rattle.tree.specs.declared.Slot.{Slot}
-use Rattle.label.proofs.Moves.{by_lt, by_eq}
-use Rattle.slots.specs.Layout.{bytes_for, start_of, len_of, has_of, span_of, num_at}
-use Rattle.slots.specs.Bare.{Bare, bare_at, bares_from, node_bare, bares_f, bare_of, Filled}
+use Rattle.label.proofs.Moves.{by_eq}
+use Rattle.slots.specs.Layout.{bytes_for, start_of, len_of, has_of, span_of}
+use Rattle.slots.specs.Bare.{Bare, bare_at, bares_from, node_bare, bares_f}
 use Rattle.splice.specs.Splice.{solid}
-use Rattle.splice.specs.Altered.{gap_of, join_of, Altered, Joinable}
+use Rattle.splice.specs.Altered.{gap_of, join_of, Altered}
 use Rattle.slots.proofs.Runs.{run_ext}
 use Rattle.splice.proofs.Gaps.{solid-gap}
 use Rattle.splice.proofs.Bares.{start_is, len_is}
-use Rattle.tidy.specs.Sparse.{Hollow, Solid, Sparse, ended, gap, full, Hops, Next, Ripe, Ready, Childless, OnlyChild, Several, KidsAre, Below, Inside, NodeSettled}
+use Rattle.tidy.specs.Sparse.{Hollow, Solid, Sparse, gap, full, Hops, Next, Ripe, Ready, Childless, OnlyChild, Several, KidsAre, Below, Inside, NodeSettled}
 use Rattle.tidy.specs.declared.Kids.{Kids}
-use Rattle.tidy.proofs.Sparse.{solid_parts, solid-first, solid-none, sparse_within, sparse_hops, sparse_solid, sparse_end, Begun, sparse_begun, hops_on}
+use Rattle.tidy.proofs.Sparse.{solid_parts, solid-first, sparse_within, sparse_solid, sparse_end, Begun, sparse_begun, hops_on}
 
 has-is : (ws bs : List ℕ) (c : ℕ) (x : Bare) → bare_at ws bs c ≡ x → has_of ws c ≡ x.has
 unfolding bare_at

@@ -1,13 +1,13 @@
 -- Siblings among gaps: what they are once the gaps are closed, and the way from one to the next. Assumes nothing.
-use mathlib.Core.Path.{◌≡◌, refl, sym, ap, ◌∙◌, subst}
-use mathlib.Core.List.{List, [], ◌∷◌, ◌++◌, append-nil}
-use Prim.Native.Nat.{ℕ, zero, suc, ◌+◌, ◌*◌, ◌-◌, ◌≤◌, ◌<◌}
+use mathlib.Core.Path.{◌≡◌, refl, ap, ◌∙◌}
+use mathlib.Core.List.{List, [], ◌∷◌, ◌++◌}
+use Prim.Native.Nat.{ℕ, suc, ◌+◌, ◌-◌, ◌≤◌, ◌<◌}
 use native.Mathlib.Omega.{arith}
 use lib.ListN.{length}
 use Rattle.tree.specs.Key.{Key}
 use Rattle.tree.specs.Map.{Num}
 use Rattle.tree.specs.Tree.{Forest, nil, node, nodes_f}
-use Rattle.slots.specs.Layout.{start_of, len_of, span_of}
+use Rattle.slots.specs.Layout.{len_of, span_of}
 use Rattle.slots.specs.Records.{run, node_rec}
 use Rattle.slots.specs.Bare.{Bare, bare_at, bares_from, node_bare, bares_f}
 use Rattle.splice.specs.Splice.{solid}
@@ -15,8 +15,8 @@ use Rattle.slots.proofs.Runs.{run_cons, run_join, run_ext}
 use Rattle.pool.proofs.Stands.{Stands}
 use Rattle.pool.proofs.Held.{slot-is_rec}
 use Rattle.splice.proofs.Bares.{stands_bares, node-bares, len_is}
-use Rattle.splice.proofs.Gaps.{solid-append, solid-gap, solid-kept, solid-forest}
-use Rattle.tidy.specs.Sparse.{Hollow, Solid, Sparse, ended, gap, full, Hops, there, hop, Next}
+use Rattle.splice.proofs.Gaps.{solid-append, solid-kept, solid-forest}
+use Rattle.tidy.specs.Sparse.{Solid, Sparse, ended, gap, full, Hops, there, hop, Next}
 
 -- Slots one after another, in two parts
 pub solid_parts : (ws bs : List ℕ) (c d e : ℕ) → c ≤ d → d ≤ e

@@ -1,31 +1,31 @@
 -- The way up, a turn at a time, and the pool that is left at its end. Assumes nothing.
 use mathlib.Core.Path.{◌≡◌, refl, sym, ap, ◌∙◌, subst}
-use mathlib.Core.List.{List, [], ◌∷◌, ◌++◌}
+use mathlib.Core.List.{List}
 use mathlib.Core.Option.{some}
-use Prim.Native.Nat.{ℕ, zero, suc, ◌+◌, ◌*◌, ◌-◌, ◌≤◌, ◌<◌}
+use Prim.Native.Nat.{ℕ, suc, ◌+◌, ◌-◌, ◌≤◌, ◌<◌}
 use native.Mathlib.Omega.{arith}
 use lib.ListN.{length}
-use Rattle.tree.specs.Key.{Key, Bytes}
+use Rattle.tree.specs.Key.{Key}
 use Rattle.tree.specs.Map.{Num}
 use Rattle.tree.specs.Tree.{Forest, node, Tree, nodes_f, nodes_t, WellFormed}
 use Rattle.tree.specs.Remove.{settle}
-use Rattle.tree.specs.Context.{Context, plug, depth, before, parent}
+use Rattle.tree.specs.Context.{plug, depth, before, parent}
 use Rattle.label.proofs.Moves.{by_eq}
 use Rattle.slots.specs.Layout.{words_for, bytes_for, nodes_of, start_of, span_of}
 use Rattle.slots.specs.Records.{node_rec}
 use Rattle.pool.specs.Pool.{pool_tree}
-use Rattle.slots.specs.Bare.{Bare, bare_at, bares_from, bares_f, root_bare, bares_t}
+use Rattle.slots.specs.Bare.{Bare, bare_at, bares_from, bares_f, bares_t}
 use Rattle.splice.specs.Splice.{solid, Linked, Settled, Closed}
 use Rattle.splice.specs.Altered.{Altered}
 use Rattle.pool.proofs.Decode.{lengths_stay}
 use Rattle.slots.proofs.Runs.{run_cons, run_length, run_ext}
-use Rattle.pool.proofs.Stands.{Stands, Holds, nodes_are, stands_at}
+use Rattle.pool.proofs.Stands.{Stands, Holds, nodes_are}
 use Rattle.pool.proofs.Held.{slot-is_rec, tree-holds}
 use Rattle.splice.proofs.Bares.{start_is, bares_f-length, whole-tree}
 use Rattle.search.proofs.Places.{plug_stands, plug-nodes, nodes-node}
 use Rattle.tidy.specs.Sparse.{Sparse, Ripe, Ready, Inside, NodeSettled, Parent}
 use Rattle.tidy.specs.Climb.{Kept, Site, Way, reached, rising, Stage, Climbing, Tidied}
-use Rattle.tidy.proofs.Sparse.{Same, sparse_solid, stands_sparse}
+use Rattle.tidy.proofs.Sparse.{sparse_solid, stands_sparse}
 use Rattle.tidy.proofs.Rise.{parent-below, parent_is, Changed, rise}
 
 -- What a node on the way settled

@@ -1,11 +1,10 @@
 -- `remove::remove` meets its contract. Assumes nothing.
 use native.Mathlib.Omega.{arith}
-use borrow.Author.Tests.{not-true, not-false}
 use Rattle.tree.specs.Key.{key_max}
 use Rattle.pool.specs.Rule.{PoolRule}
 use Rattle.remove.proofs.Taken.{remove-refused, remove_long}
-use borrow.Author.Rules.{rules}
 use Rattle.remove.proofs.remove.Goals as goal
+use Rattle.remove.proofs.remove.Goals.{Then-not-is_pool, Else-not-is_pool}
 
 -- by the first test the lent slices are no pool
 no_pool : (c : goal.Then-not-is_pool)
@@ -23,7 +22,8 @@ pub returns-then-not-is_pool : goal.returns-then-not-is_pool
 returns-then-not-is_pool c = search (no_pool, remove-refused)
 
 pub returns-then-key-gt-KEY_MAX : goal.returns-then-key-gt-KEY_MAX
-returns-then-key-gt-KEY_MAX c = search (rule_at, remove_long)
+returns-then-key-gt-KEY_MAX c =
+    remove_long _ _ _ (rule_at (goal.at.returns-then-key-gt-KEY_MAX c).Else-not-is_pool) (omega arith)
 
 pub remove_in-requires : goal.remove_in-requires
 unfolding key_max

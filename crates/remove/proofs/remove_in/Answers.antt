@@ -1,15 +1,20 @@
 -- `remove::remove_in` meets its contract, by where the search has ended. Assumes nothing.
 use mathlib.Core.Path.{refl}
+use Prim.Native.Nat.{ℕ}
+use lib.ListN.{get_or}
+use mir.Syntax.{w8}
+use mir.Val.{Fits}
 use Rattle.search.specs.declared.Stop.{Stop}
 use Rattle.search.proofs.Answers.{Known, knows, got_at}
 use Rattle.remove.proofs.Taken.{found, elsewhere}
-use borrow.Author.Rules.{rules}
 use Rattle.remove.proofs.remove_in.Goals as goal
+use Rattle.remove.proofs.remove_in.Goals.{After-descend-d}
 
 -- what is known behind the descent
 known : (c : goal.After-descend-d) → let a = c.args in Known a.words.now a.labels.now a.key.now c.descend-d.result
 known c =
-    knows c.requires.0 c.requires.1 c.type_inv.labels c.descend-d.ensures
+    let byte : (i : ℕ) → Fits w8 (get_or c.args.labels.now i 0) = assumption in
+    knows c.requires.0 c.requires.1 byte c.descend-d.ensures
 
 pub take_number-requires : goal.take_number-requires
 take_number-requires c = found (known (goal.at.take_number-requires c).After-descend-d) Stop.Root c.in-Root.is tt

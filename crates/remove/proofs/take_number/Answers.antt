@@ -2,7 +2,6 @@
 use mathlib.Core.Path.{ap, sym, ◌∙◌}
 use Rattle.slots.specs.Bare.{stored_of}
 use Rattle.remove.proofs.Taken.{found-slot, found_climbing, not_stored, stored}
-use borrow.Author.Rules.{rules}
 use Rattle.remove.proofs.take_number.Goals as goal
 
 pub stored_at-requires : goal.stored_at-requires

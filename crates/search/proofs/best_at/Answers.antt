@@ -1,7 +1,6 @@
 -- `search::best_at` meets its contract. Assumes nothing.
 use native.Mathlib.Omega.{arith}
 use Rattle.search.proofs.Meets.{met-none, met_some}
-use borrow.Author.Rules.{rules}
 use Rattle.search.proofs.best_at.Goals as goal
 
 pub returns : goal.returns

@@ -1,15 +1,12 @@
 -- `search::descend` meets its contract: its loop keeps where in the tree the search has come to. Assumes nothing.
-use mathlib.Core.Path.{◌≡◌, refl}
-use Prim.Native.Nat.{◌-◌}
+use mathlib.Core.Path.{refl}
 use native.Mathlib.Omega.{arith}
-use borrow.Author.Rules.{rules}
-use Rattle.tree.specs.Key.{Bytes}
 use Rattle.pool.proofs.Answers.{bytes_of}
 use Rattle.search.specs.declared.Meeting.{Meeting}
 use Rattle.search.specs.Landing.{best_of}
-use Rattle.search.proofs.Meets.{Means}
-use Rattle.search.proofs.Seek.{Seek, seek_start, AtNode, seek_node, node_means, through_left, seek_over, seek_down, lands_root, lands_before, lands_same, lands_inside, lands_fork, lands_last}
+use Rattle.search.proofs.Seek.{seek_start, AtNode, seek_node, node_means, through_left, seek_over, seek_down, lands_root, lands_before, lands_same, lands_inside, lands_fork, lands_last}
 use Rattle.search.proofs.descend.Goals as goal
+use Rattle.search.proofs.descend.Goals.{In-loop-c}
 
 -- the node that the loop is at
 here : (c : goal.In-loop-c)
@@ -19,24 +16,15 @@ here : (c : goal.In-loop-c)
     AtNode a.words.now a.labels.now a.key.now best v.looked v.parent.0 v.c v.end v.p
 here c = seek_node c.requires.0 c.loop-c-test.true c.loop-c.invariant
 
--- what its meeting with the key says
-meets : (c : goal.After-meet) (m : Meeting) → c.meet.result ≡ m
-    → let n = here c.before in
-    Means m n.come.y n.come.r n.b n.l
-meets c m e = node_means (here c.before) _ m c.meet.ensures e
-
-bytes : (c : goal.After-shared_slice_known-1) → Bytes c.args.labels.now
-bytes c = bytes_of c.args.labels.now c.type_inv.labels
-
 pub returns-then-key-eq0 : goal.returns-then-key-eq0
 returns-then-key-eq0 c =
     rw c.landed.ensures
-    (lands_root _ _ _ c.requires.0 (bytes (goal.at.returns-then-key-eq0 c).After-shared_slice_known-1) _ c.if-key-eq0.true refl
+    (lands_root _ _ _ c.requires.0 (bytes_of _ c.type_inv.labels) _ c.if-key-eq0.true refl
     (record { at-is = refl; parent_is = refl; above-is = refl }) c.best_at-best.ensures refl)
 
 pub loop-c-init : goal.loop-c-init
 loop-c-init c =
-    seek_start _ _ _ c.requires.0 (bytes (goal.at.loop-c-init c).After-shared_slice_known-1) _ _ c.nodes_in-n.ensures.0 c.best_at-best.ensures c.if-key-eq0.false
+    seek_start _ _ _ c.requires.0 (bytes_of _ c.type_inv.labels) _ _ c.nodes_in-n.ensures.0 c.best_at-best.ensures c.if-key-eq0.false
 
 pub overflow_add-seen : goal.overflow_add-seen
 overflow_add-seen c = omega (arith, here (goal.at.overflow_add-seen c).In-loop-c)
@@ -48,65 +36,44 @@ meet-requires c =
 pub returns-in-Before : goal.returns-in-Before
 returns-in-Before c =
     rw c.landed-in-Before.ensures
-    (lands_before _ (here (goal.at.returns-in-Before c).In-loop-c) refl refl (meets (goal.at.returns-in-Before c).After-meet Meeting.Before c.in-Before.is) refl)
-
-pub span_at-c-requires : goal.span_at-c-requires
-span_at-c-requires c = (here (goal.at.span_at-c-requires c).In-loop-c).within.words
-
-pub overflow_add-c : goal.overflow_add-c
-overflow_add-c c = omega (arith, here (goal.at.overflow_add-c c).In-loop-c)
+    (lands_before _ (here (goal.at.returns-in-Before c).In-loop-c) refl refl (node_means (here (goal.at.returns-in-Before c).In-loop-c) _ Meeting.Before c.meet.ensures c.in-Before.is) refl)
 
 pub loop-c-smaller-in-Past : goal.loop-c-smaller-in-Past
 loop-c-smaller-in-Past c = omega (arith, here (goal.at.loop-c-smaller-in-Past c).In-loop-c)
 
 pub loop-c-preserved-in-Past : goal.loop-c-preserved-in-Past
 loop-c-preserved-in-Past c =
-    seek_over (here (goal.at.loop-c-preserved-in-Past c).In-loop-c) _ c.span_at-c.ensures.0 (meets (goal.at.loop-c-preserved-in-Past c).After-meet Meeting.Past c.in-Past.is)
-
-pub best_at-best-requires-in-Same : goal.best_at-best-requires-in-Same
-best_at-best-requires-in-Same c = (here (goal.at.best_at-best-requires-in-Same c).In-loop-c).within.words
+    seek_over (here (goal.at.loop-c-preserved-in-Past c).In-loop-c) _ c.span_at-c.ensures.0 (node_means (here (goal.at.loop-c-preserved-in-Past c).In-loop-c) _ Meeting.Past c.meet.ensures c.in-Past.is)
 
 pub returns-in-Same : goal.returns-in-Same
 returns-in-Same c =
-    let same = meets (goal.at.returns-in-Same c).After-meet Meeting.Same c.in-Same.is in
+    let same = node_means (here (goal.at.returns-in-Same c).In-loop-c) _ Meeting.Same c.meet.ensures c.in-Same.is in
     rw c.landed-in-Same.ensures (lands_same _ (here (goal.at.returns-in-Same c).In-loop-c) refl c.best_at-best-in-Same.ensures same refl)
 
 pub returns-in-Inside : goal.returns-in-Inside
 returns-in-Inside c =
-    let inside = meets (goal.at.returns-in-Inside c).After-meet (Meeting.Inside _) c.in-Inside.is in
+    let inside = node_means (here (goal.at.returns-in-Inside c).In-loop-c) _ (Meeting.Inside _) c.meet.ensures c.in-Inside.is in
     rw c.landed-in-Inside.ensures (lands_inside _ (here (goal.at.returns-in-Inside c).In-loop-c) refl _ refl inside refl)
 
 pub returns-in-Fork : goal.returns-in-Fork
 returns-in-Fork c =
-    let fork = meets (goal.at.returns-in-Fork c).After-meet (Meeting.Fork _) c.in-Fork.is in
+    let fork = node_means (here (goal.at.returns-in-Fork c).In-loop-c) _ (Meeting.Fork _) c.meet.ensures c.in-Fork.is in
     rw c.landed-in-Fork.ensures (lands_fork _ (here (goal.at.returns-in-Fork c).In-loop-c) refl _ refl fork refl)
 
 pub overflow_add-p : goal.overflow_add-p
 overflow_add-p c =
-    omega (arith, through_left (here (goal.at.overflow_add-p c).In-loop-c) _ (meets (goal.at.overflow_add-p c).After-meet (Meeting.Through _) c.in-Through.is))
-
-pub best_at-best-requires-in-Through : goal.best_at-best-requires-in-Through
-best_at-best-requires-in-Through c = (here (goal.at.best_at-best-requires-in-Through c).In-loop-c).within.words
-
-pub span_at-requires : goal.span_at-requires
-span_at-requires c = (here (goal.at.span_at-requires c).In-loop-c).within.words
-
-pub overflow_add-end : goal.overflow_add-end
-overflow_add-end c = omega (arith, here (goal.at.overflow_add-end c).In-loop-c)
+    omega (arith, through_left (here (goal.at.overflow_add-p c).In-loop-c) _ (node_means (here (goal.at.overflow_add-p c).In-loop-c) _ (Meeting.Through _) c.meet.ensures c.in-Through.is))
 
 pub overflow_add-p-in-Through : goal.overflow_add-p-in-Through
 overflow_add-p-in-Through c =
-    omega (arith, through_left (here (goal.at.overflow_add-p-in-Through c).In-loop-c) _ (meets (goal.at.overflow_add-p-in-Through c).After-meet (Meeting.Through _) c.in-Through.is))
-
-pub overflow_add-c-in-Through : goal.overflow_add-c-in-Through
-overflow_add-c-in-Through c = omega (arith, here (goal.at.overflow_add-c-in-Through c).In-loop-c)
+    omega (arith, through_left (here (goal.at.overflow_add-p-in-Through c).In-loop-c) _ (node_means (here (goal.at.overflow_add-p-in-Through c).In-loop-c) _ (Meeting.Through _) c.meet.ensures c.in-Through.is))
 
 pub loop-c-smaller : goal.loop-c-smaller
 loop-c-smaller c = omega (arith, here (goal.at.loop-c-smaller c).In-loop-c)
 
 pub loop-c-preserved : goal.loop-c-preserved
 loop-c-preserved c =
-    seek_down (here (goal.at.loop-c-preserved c).In-loop-c) _ c.span_at.ensures.0 _ (meets (goal.at.loop-c-preserved c).After-meet (Meeting.Through _) c.in-Through.is) _ c.best_at-best-in-Through.ensures
+    seek_down (here (goal.at.loop-c-preserved c).In-loop-c) _ c.span_at.ensures.0 _ (node_means (here (goal.at.loop-c-preserved c).In-loop-c) _ (Meeting.Through _) c.meet.ensures c.in-Through.is) _ c.best_at-best-in-Through.ensures
 
 pub returns : goal.returns
 returns c = rw c.landed-2.ensures (lands_last _ c.loop-c.invariant c.loop-c-test.false refl)

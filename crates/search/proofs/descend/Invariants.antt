@@ -1,14 +1,7 @@
 -- `search::descend` meets its contract: its loop keeps where in the tree the search has come to. Assumes nothing.
-use mathlib.Core.Path.{◌≡◌, refl}
 use Prim.Native.Nat.{◌-◌}
-use native.Mathlib.Omega.{arith}
-use borrow.Author.Rules.{rules}
-use Rattle.tree.specs.Key.{Bytes}
-use Rattle.pool.proofs.Answers.{bytes_of}
-use Rattle.search.specs.declared.Meeting.{Meeting}
 use Rattle.search.specs.Landing.{best_of}
-use Rattle.search.proofs.Meets.{Means}
-use Rattle.search.proofs.Seek.{Seek, seek_start, AtNode, seek_node, node_means, through_left, seek_over, seek_down, lands_root, lands_before, lands_same, lands_inside, lands_fork, lands_last}
+use Rattle.search.proofs.Seek.{Seek}
 use Rattle.search.proofs.descend.Given as goal
 
 abbrev pub invariant-loop-c : goal.invariant-loop-c

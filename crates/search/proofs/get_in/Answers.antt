@@ -3,8 +3,8 @@ use mathlib.Core.Path.{refl}
 use Rattle.tree.specs.Calls.{number_told}
 use Rattle.search.specs.declared.Stop.{Stop}
 use Rattle.search.proofs.Answers.{Known, knows, got_at, got_slot, got_is}
-use borrow.Author.Rules.{rules}
 use Rattle.search.proofs.get_in.Goals as goal
+use Rattle.search.proofs.get_in.Goals.{After-descend-d}
 
 -- what is known behind the descent
 known : (c : goal.After-descend-d) → let a = c.args in Known a.words.now a.labels.now a.key.now c.descend-d.result

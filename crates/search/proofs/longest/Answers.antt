@@ -1,9 +1,7 @@
 -- `search::longest` meets its contract. Assumes nothing.
 use native.Mathlib.Omega.{arith}
-use borrow.Author.Tests.{not-true, not-false}
 use Rattle.tree.specs.Key.{key_max}
 use Rattle.search.proofs.Answers.{longest-refused, longest_long}
-use borrow.Author.Rules.{rules}
 use Rattle.search.proofs.longest.Goals as goal
 
 pub returns-then-not-is_pool : goal.returns-then-not-is_pool

@@ -3,8 +3,8 @@ use mathlib.Core.Path.{refl}
 use Rattle.tree.specs.Calls.{longest_told}
 use Rattle.search.specs.declared.Best.{Best}
 use Rattle.search.proofs.Answers.{Known, knows, longest-is}
-use borrow.Author.Rules.{rules}
 use Rattle.search.proofs.longest_in.Goals as goal
+use Rattle.search.proofs.longest_in.Goals.{After-descend-d}
 
 -- what is known behind the descent
 known : (c : goal.After-descend-d) → let a = c.args in Known a.words.now a.labels.now a.query.now c.descend-d.result

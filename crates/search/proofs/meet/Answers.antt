@@ -5,8 +5,8 @@ use lib.ListN.{length, take, drop}
 use Rattle.slots.specs.Layout.{label_of}
 use Rattle.search.specs.Landing.{meeting_of}
 use Rattle.search.proofs.Meets.{meets_below, meets_above, meets_runs, by_lengths, by_same, by_through, by_inside, by_fork, run_on}
-use borrow.Author.Rules.{rules}
 use Rattle.search.proofs.meet.Goals as goal
+use Rattle.search.proofs.meet.Goals.{After-shared_length-m}
 
 -- where the first bytes are the same: the two runs as the code compares them
 runs : (c : goal.After-shared_length-m)

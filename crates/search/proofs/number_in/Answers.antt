@@ -1,7 +1,6 @@
 -- `search::number_in` meets its contract. Assumes nothing.
 use native.Mathlib.Omega.{arith}
 use Rattle.search.proofs.Answers.{number-none, number-some}
-use borrow.Author.Rules.{rules}
 use Rattle.search.proofs.number_in.Goals as goal
 
 pub returns : goal.returns

@@ -3,8 +3,8 @@ use mathlib.Core.Path.{refl}
 use native.Mathlib.Omega.{arith}
 use Rattle.search.specs.declared.Stop.{Stop}
 use Rattle.search.proofs.Answers.{Known, knows, shared_at, shared-is, shared-within}
-use borrow.Author.Rules.{rules}
 use Rattle.search.proofs.shared_in.Goals as goal
+use Rattle.search.proofs.shared_in.Goals.{After-descend-d}
 
 -- what is known behind the descent
 known : (c : goal.After-descend-d) → let a = c.args in Known a.words.now a.labels.now a.query.now c.descend-d.result

@@ -6,9 +6,6 @@ use Rattle.split.proofs.leave.Goals as goal
 pub span_at-requires : goal.span_at-requires
 span_at-requires c = (leave_bounds c.requires).0
 
-pub overflow_add-end : goal.overflow_add-end
-overflow_add-end c = omega (arith, leave_bounds c.requires, c.span_at.ensures.0)
-
 pub open_gaps-requires : goal.open_gaps-requires
 open_gaps-requires c = omega (arith, leave_bounds c.requires, c.span_at.ensures.0)
 

@@ -1,8 +1,6 @@
 -- `split::lift` meets its contract: the slots passed stand in the other pool. Assumes nothing.
 use Prim.Native.Nat.{◌≤◌, ◌-◌}
-use native.Mathlib.Omega.{arith}
 use Rattle.split.specs.Lift.{Lifted}
-use Rattle.split.proofs.Lifts.{lift_none, lift_more, lift_done}
 use Rattle.split.proofs.lift.Given as goal
 
 abbrev pub invariant-loop-i : goal.invariant-loop-i

@@ -2,7 +2,6 @@
 use mathlib.Core.Path.{refl}
 use native.Mathlib.Omega.{arith}
 use Rattle.split.proofs.Lifts.{rooted}
-use borrow.Author.Rules.{rules}
 use Rattle.split.proofs.put_root.Goals as goal
 
 pub returns : goal.returns

@@ -1,12 +1,10 @@
 -- `split::split` meets its contract. Assumes nothing.
 use mathlib.Core.Path.{ap, sym, ◌∙◌}
 use native.Mathlib.Omega.{arith}
-use borrow.Author.Tests.{not-true, not-false}
 use Rattle.tree.specs.Key.{key_max}
 use Rattle.pool.specs.Fields.{sized_of}
 use Rattle.pool.proofs.Decode.{lengths-right}
 use Rattle.split.proofs.Halves.{first-refused, second-refused, prefix_long}
-use borrow.Author.Rules.{rules}
 use Rattle.split.proofs.split.Goals as goal
 
 pub returns-then-not-is_pool : goal.returns-then-not-is_pool

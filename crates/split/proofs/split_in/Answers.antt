@@ -1,14 +1,19 @@
 -- `split::split_in` meets its contract, by where the search has ended. Assumes nothing.
+use Prim.Native.Nat.{ℕ}
+use lib.ListN.{get_or}
+use mir.Syntax.{w8}
+use mir.Val.{Fits}
 use Rattle.search.specs.declared.Stop.{Stop}
 use Rattle.search.proofs.Answers.{Known, knows}
 use Rattle.split.proofs.Halves.{landed, landed_root, gap-absent, fork-absent}
-use borrow.Author.Rules.{rules}
 use Rattle.split.proofs.split_in.Goals as goal
+use Rattle.split.proofs.split_in.Goals.{After-descend-d}
 
 -- what is known behind the descent
 known : (c : goal.After-descend-d) → let a = c.args in Known a.words.now a.labels.now a.prefix.now c.descend-d.result
 known c =
-    knows c.requires.0 c.requires.1 c.type_inv.labels c.descend-d.ensures
+    let byte : (i : ℕ) → Fits w8 (get_or c.args.labels.now i 0) = assumption in
+    knows c.requires.0 c.requires.1 byte c.descend-d.ensures
 
 pub split_root-requires : goal.split_root-requires
 split_root-requires c = (landed_root (known (goal.at.split_root-requires c).After-descend-d) c.in-Root.is, c.requires.2)

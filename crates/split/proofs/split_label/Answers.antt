@@ -1,7 +1,6 @@
 -- `split::split_label` meets its contract. Assumes nothing.
 use native.Mathlib.Omega.{arith}
 use Rattle.split.proofs.Halves.{inside_ready, inside-slot, inside-leaves, inside-full, inside-done}
-use borrow.Author.Rules.{rules}
 use Rattle.split.proofs.split_label.Goals as goal
 
 pub span_at-requires : goal.span_at-requires

@@ -1,7 +1,6 @@
 -- `split::split_node` meets its contract. Assumes nothing.
 use native.Mathlib.Omega.{arith}
 use Rattle.split.proofs.Halves.{same_ready, same-slot, same-leaves, same_full, same-done}
-use borrow.Author.Rules.{rules}
 use Rattle.split.proofs.split_node.Goals as goal
 
 pub span_at-requires : goal.span_at-requires

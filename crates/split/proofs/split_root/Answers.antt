@@ -1,7 +1,6 @@
 -- `split::split_root` meets its contract. Assumes nothing.
 use native.Mathlib.Omega.{arith}
 use Rattle.split.proofs.Halves.{root_ready, root-nodes, root-full, root-done}
-use borrow.Author.Rules.{rules}
 use Rattle.split.proofs.split_root.Goals as goal
 
 pub nodes_in-requires : goal.nodes_in-requires

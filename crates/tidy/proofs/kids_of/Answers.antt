@@ -1,23 +1,11 @@
 -- `tidy::kids_of` meets its contract, by the two children that it looks for. Assumes nothing.
 use native.Mathlib.Omega.{arith}
-use Rattle.tidy.proofs.Sparse.{hops_within}
-use Rattle.tidy.proofs.Settle.{childless, several, only_child, others-hop}
-use borrow.Author.Rules.{rules}
+use Rattle.tidy.proofs.Settle.{childless, several, only_child}
 use Rattle.tidy.proofs.kids_of.Goals as goal
-
-pub next_child-child-requires : goal.next_child-child-requires
-next_child-child-requires c = (omega (arith, c.span_at.ensures.0), rw c.span_at.ensures.0 c.requires.1)
 
 pub returns-then-child-end : goal.returns-then-child-end
 returns-then-child-end c =
     λ bs s b l w kids r. childless r _ _ (omega (arith, c.span_at.ensures.0)) c.next_child-child.ensures.1 (omega arith)
-
-pub span_at-requires-2 : goal.span_at-requires-2
-span_at-requires-2 c = omega (arith, hops_within c.next_child-child.ensures.0, c.span_at.ensures.0)
-
-pub next_child-other-requires : goal.next_child-other-requires
-next_child-other-requires c =
-    (omega (arith, c.span_at.ensures.0), others-hop _ _ _ _ c.next_child-child.ensures.0 (omega arith) (omega (arith, c.span_at-2.ensures.0)))
 
 pub returns-then-other-end : goal.returns-then-other-end
 returns-then-other-end c =

@@ -2,11 +2,7 @@
 use native.Mathlib.Omega.{arith}
 use Rattle.tidy.proofs.Sparse.{sparse_hops}
 use Rattle.tidy.proofs.Settle.{numbered_stays, unnumbered, told_nothing, told_one, told_more, childless_goes, several_stay, child-below}
-use borrow.Author.Rules.{rules}
 use Rattle.tidy.proofs.settle_node.Goals as goal
-
-pub has_at-requires : goal.has_at-requires
-has_at-requires c = omega (arith, c.requires.words, c.requires.ripe.span)
 
 pub returns-then-has_at-gt0 : goal.returns-then-has_at-gt0
 returns-then-has_at-gt0 c = λ s b l w kids r. numbered_stays (omega (arith, c.has_at.ensures.0)) r
@@ -14,10 +10,7 @@ returns-then-has_at-gt0 c = λ s b l w kids r. numbered_stays (omega (arith, c.h
 pub kids_of-requires : goal.kids_of-requires
 kids_of-requires c =
     let p = c.requires in
-    ((p.words, p.ripe.span), sparse_hops p.ripe.kids_are)
-
-pub open_gap-requires : goal.open_gap-requires
-open_gap-requires c = omega (arith, c.requires.words, c.requires.ripe.span)
+    record { fact = (p.words, p.ripe.span); hops = sparse_hops p.ripe.kids_are }
 
 pub take_in-requires : goal.take_in-requires
 take_in-requires c =
