@@ -1,15 +1,15 @@
 -- A list of tests as a yes or no, the bits of a pair, and the flag byte of a node. Assumes nothing.
-use mathlib.Core.Path.{◌≡◌, refl, sym}
+use mathlib.Core.Path.{◌≡◌, refl}
 use mathlib.Core.Bool.{Bool, true, false}
 use mathlib.Core.List.{List}
-use mathlib.Core.Option.{Option, none, some}
-use Prim.Native.Nat.{ℕ, zero, suc, ◌+◌, ◌≤◌}
+use mathlib.Core.Option.{none, some}
+use Prim.Native.Nat.{ℕ, zero, suc, ◌≤◌}
 use native.Mathlib.Omega.{arith}
 use Rattle.tree.specs.Map.{Num}
 use Rattle.tree.specs.Tree.{Forest, nil, node}
 use Rattle.tree.specs.Image.{flags_w, flags_f, flags}
 use Rattle.tree.specs.Reader.{Rule, judge, below}
-use Rattle.tree.proofs.Judge.{All, passed, Judged, passes, breaks, judged}
+use Rattle.tree.proofs.Judge.{All, passed, passes, breaks, judged}
 use Rattle.flags.specs.Flags.{pair, flag_byte, passes as is_sound}
 
 pub all_pass : (rs : List Rule) → All rs → true ≡ is_sound (judge rs)

@@ -1,9 +1,9 @@
 -- The contracts of read and of the check decide the answer and what is left behind. Assumes nothing.
-use mathlib.Core.Path.{◌≡◌, refl, sym, ap, ◌∙◌}
+use mathlib.Core.Path.{◌≡◌, sym, ap, ◌∙◌}
 use mathlib.Core.List.{List}
 use Prim.Native.Nat.{ℕ}
 use lib.ListN.{length, replicate, length-replicate}
-use Rattle.tree.specs.Told.{Told, loaded_told}
+use Rattle.tree.specs.Told.{loaded_told}
 use Rattle.tree.specs.Calls.{read_call}
 use Rattle.tree.specs.declared.Loaded.{Loaded}
 use Rattle.tree.proofs.Judge.{never}

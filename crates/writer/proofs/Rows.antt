@@ -3,7 +3,7 @@
 use mathlib.Core.Path.{◌≡◌, refl, sym, ap, ◌∙◌, subst}
 use mathlib.Core.Bool.{Bool, true, false}
 use mathlib.Core.List.{List, [], ◌∷◌, ◌++◌, append_assoc, append-nil}
-use Prim.Native.Nat.{ℕ, suc, ◌+◌, ◌*◌, ◌/◌, ◌%◌, ◌≤◌, ◌<◌}
+use Prim.Native.Nat.{ℕ, suc, ◌+◌, ◌/◌, ◌%◌, ◌≤◌, ◌<◌}
 use native.Mathlib.Nat.{add-zero}
 use native.Mathlib.Omega.{arith}
 use lib.ListN.{length, get_or, set, length-append}
@@ -20,8 +20,8 @@ use Rattle.slots.specs.Records.{node_rec}
 use Rattle.pool.specs.Rule.{Within}
 use Rattle.pool.proofs.Stands.{Stands, stands_at, recs_stands}
 use Rattle.pool.proofs.Held.{SlotIs, slot-is_rec}
-use Rattle.writer.specs.Parts.{record_at, follows_at, Followed}
-use Rattle.writer.specs.Runs.{Run, Room, Put, RecordRoom, RunPut}
+use Rattle.writer.specs.Parts.{record_at, follows_at}
+use Rattle.writer.specs.Runs.{Run, Put, RecordRoom}
 use Rattle.writer.proofs.Lists.{put-none, put-more, put_as, put-length}
 use Rattle.writer.proofs.Flags.{flags_are, image-node}
 

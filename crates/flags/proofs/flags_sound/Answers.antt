@@ -4,11 +4,11 @@ use Rattle.tree.specs.Told.{refusal}
 use Rattle.tree.proofs.ReaderRules.{Allocated}
 use Rattle.flags.proofs.Judged.{all_pass, one_fails, below_root, below_other}
 use Rattle.flags.proofs.Pairs.{none_two, two_breaks, rules_hold}
-use borrow.Author.Rules.{rules}
 use Rattle.flags.proofs.flags_sound.Goals as goal
+use Rattle.flags.proofs.flags_sound.Goals.{Else-bits-eq2-3}
 
 -- behind the tests of the pairs the byte keeps the rules for itself
-allocated : (c : goal.Else-bits-eq2-3) → Allocated c.args.f
+allocated : (c : Else-bits-eq2-3) → Allocated c.args.f
 allocated c =
     none_two _ (omega (arith, c.if-bits-gt63.false)) c.if-bits-eq2.false c.if-bits-eq2-2.false c.if-bits-eq2-3.false
 

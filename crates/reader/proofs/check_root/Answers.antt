@@ -5,14 +5,14 @@ use lib.ListN.{get_or}
 use Rattle.flags.proofs.Judged.{below_root}
 use Rattle.reader.specs.Check.{start}
 use Rattle.reader.proofs.Walk.{Passed, node-passed, node-broken, node-leaf, node-deep}
-use borrow.Author.Rules.{rules}
 use Rattle.reader.proofs.check_root.Goals as goal
+use Rattle.reader.proofs.check_root.Goals.{In_default}
 
 -- a root that passed its tests
-passed : (c : goal.In_default) → Passed c.args.tree.now 0 0 (start c.args.numbers)
+passed : (c : In_default) → Passed c.args.tree.now 0 0 (start c.args.numbers)
 passed c = node-passed c.args.tree.now 0 0 0 (start c.args.numbers) (rw c.in_default.is at c.test_root-found.ensures)
 
-bare : (c : goal.In_default) → get_or c.args.tree.now 1 0 ≡ 0
+bare : (c : In_default) → get_or c.args.tree.now 1 0 ≡ 0
 bare c =
     let r = below_root 0 refl in
     let o = passed c in

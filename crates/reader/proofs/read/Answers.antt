@@ -1,10 +1,9 @@
 -- `reader::read` meets its contract: the lengths, the check, and only then the fill. Assumes nothing.
 use mathlib.Core.Path.{refl, sym, ap, ◌∙◌}
-use mathlib.Core.Logic.{⊎_elim}
 use Rattle.reader.specs.Check.{count_of}
 use Rattle.reader.proofs.Answers.{not_pool, not_image, fill_due}
-use borrow.Author.Rules.{rules}
 use Rattle.reader.proofs.read.Goals as goal
+use Rattle.reader.proofs.read.Goals.{in-Accepted, in_default-verdict}
 
 pub returns-in_default : goal.returns-in_default
 returns-in_default c = not_pool _ _ _ _ (sym (rw c.in_default.is at c.slots_of.ensures))
@@ -17,6 +16,9 @@ fill_tree-requires c =
 pub returns : goal.returns
 returns c =
     let slots = sym (rw c.in-Slots.is at c.slots_of.ensures) in
-    ⊎_elim (λ w. rw (w.9, w.10, c.answer.ensures, w.1.given.1) w.4.ensures)
-    (λ w. rw (w.2, w.3, c.answer.ensures, w.1.given.1) (not_image _ _ _ _ _ slots _ (rw w.1.given.1 at (c.check-verdict.ensures c.args.numbers.now refl))))
-    c.in-Accepted.branch
+    elim c.match-verdict.branch [
+        in-Accepted w ↦ rw (w.labels-is, w.words-is, c.answer.ensures, w.in-Accepted.is) w.fill_tree.ensures
+        | in_default-verdict w ↦
+            rw (w.labels-is, w.words-is, c.answer.ensures, w.in_default-verdict.is)
+            (not_image _ _ _ _ _ slots _ (rw w.in_default-verdict.is at (c.check-verdict.ensures c.args.numbers.now refl)))
+    ]

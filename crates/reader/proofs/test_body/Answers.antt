@@ -4,7 +4,6 @@ use native.Mathlib.Omega.{arith}
 use Rattle.tree.specs.Key.{key_max}
 use Rattle.tree.proofs.Judge.{passed}
 use Rattle.reader.proofs.Tests.{broken-at, below-is}
-use borrow.Author.Rules.{rules}
 use Rattle.reader.proofs.test_body.Goals as goal
 
 pub returns-then-wide-least : goal.returns-then-wide-least

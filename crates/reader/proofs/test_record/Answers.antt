@@ -3,7 +3,6 @@ use mathlib.Core.Path.{sym, ◌∙◌}
 use native.Mathlib.Omega.{arith}
 use Rattle.tree.proofs.Judge.{all_hold}
 use Rattle.reader.proofs.Tests.{below-is, record_past, record_stop}
-use borrow.Author.Rules.{rules}
 use Rattle.reader.proofs.test_record.Goals as goal
 
 pub test_body-requires : goal.test_body-requires

@@ -2,7 +2,6 @@
 use mathlib.Core.Path.{sym, ◌∙◌}
 use native.Mathlib.Omega.{arith}
 use Rattle.walk.proofs.Due.{common-most, past_end, past-longer, past_parts}
-use borrow.Author.Rules.{rules}
 use Rattle.walk.proofs.comes_after.Goals as goal
 
 pub returns-then-m-key : goal.returns-then-m-key

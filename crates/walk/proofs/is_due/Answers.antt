@@ -2,7 +2,6 @@
 use mathlib.Core.Path.{sym, ◌∙◌}
 use native.Mathlib.Omega.{arith}
 use Rattle.walk.proofs.Due.{due-off, due-on, past-fresh, past_begun}
-use borrow.Author.Rules.{rules}
 use Rattle.walk.proofs.is_due.Goals as goal
 
 pub returns-then-begun : goal.returns-then-begun

@@ -5,7 +5,6 @@ use lib.ListN.{length}
 use Rattle.slots.proofs.Cuts.{label-length}
 use Rattle.walk.proofs.Path.{lay_done}
 use Prim.Native.Nat.{ℕ, ◌+◌}
-use borrow.Author.Rules.{rules}
 use Rattle.walk.proofs.lay.Goals as goal
 
 pub copy-requires : goal.copy-requires

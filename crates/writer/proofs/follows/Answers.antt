@@ -1,6 +1,5 @@
 -- `writer::follows` meets its contract. Assumes nothing.
 use native.Mathlib.Omega.{arith}
-use borrow.Author.Rules.{rules}
 use Rattle.writer.proofs.Rows.{follows_past, follows_start}
 use Rattle.writer.proofs.follows.Goals as goal
 

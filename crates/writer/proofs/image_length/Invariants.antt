@@ -1,9 +1,7 @@
 -- `writer::image_length` meets its contract: the bytes counted are those of the slots passed. Assumes nothing.
-use mathlib.Core.Path.{◌≡◌, ap, ◌∙◌}
+use mathlib.Core.Path.{◌≡◌}
 use Prim.Native.Nat.{◌≤◌, ◌-◌, ◌*◌}
-use native.Mathlib.Omega.{arith}
 use Rattle.writer.specs.Parts.{record_sum}
-use Rattle.writer.proofs.Totals.{sum_more}
 use Rattle.writer.proofs.image_length.Given as goal
 
 abbrev pub invariant-loop-i : goal.invariant-loop-i

@@ -1,7 +1,6 @@
 -- `writer::write_number` meets its contract: a number is put where the slot has one. Assumes nothing.
 use mathlib.Core.Path.{◌∙◌, sym}
 use Rattle.writer.proofs.Totals.{number-none, number_put, number-room}
-use borrow.Author.Rules.{rules}
 use Rattle.writer.proofs.write_number.Goals as goal
 
 pub returns-then-has_at-eq0 : goal.returns-then-has_at-eq0

@@ -1,10 +1,7 @@
 -- `writer::write_numbers` meets its contract: the numbers put are those of the slots passed. Assumes nothing.
-use Prim.Native.Nat.{◌≤◌, ◌-◌}
 use native.Mathlib.Omega.{arith}
-use Rattle.writer.specs.Parts.{numbers_in}
-use Rattle.writer.specs.Runs.{Put}
 use Rattle.writer.proofs.Lists.{put-length}
-use Rattle.writer.proofs.Totals.{numbers-none, numbers_step, numbers-done, number_fits}
+use Rattle.writer.proofs.Totals.{numbers-none, numbers_step, number_fits}
 use Rattle.writer.proofs.write_numbers.Goals as goal
 
 pub write_number-at-requires : goal.write_number-at-requires
@@ -14,9 +11,6 @@ write_number-at-requires c =
 pub loop-i-preserved : goal.loop-i-preserved
 loop-i-preserved c =
     (omega arith, numbers_step c.args.words.now c.loop-i.i c.loop-i.invariant.1 c.write_number-at.ensures)
-
-pub returns : goal.returns
-returns c = numbers-done c.args.words.now c.loop-i.i c.args.n (omega arith) c.loop-i.invariant.1
 
 pub loop-i-init : goal.loop-i-init
 loop-i-init c = (omega arith, numbers-none _ _)

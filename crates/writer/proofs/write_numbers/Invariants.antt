@@ -1,10 +1,7 @@
 -- `writer::write_numbers` meets its contract: the numbers put are those of the slots passed. Assumes nothing.
 use Prim.Native.Nat.{◌≤◌, ◌-◌}
-use native.Mathlib.Omega.{arith}
 use Rattle.writer.specs.Parts.{numbers_in}
 use Rattle.writer.specs.Runs.{Put}
-use Rattle.writer.proofs.Lists.{put-length}
-use Rattle.writer.proofs.Totals.{numbers-none, numbers_step, numbers-done, number_fits}
 use Rattle.writer.proofs.write_numbers.Given as goal
 
 abbrev pub invariant-loop-i : goal.invariant-loop-i

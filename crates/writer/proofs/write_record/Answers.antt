@@ -1,9 +1,7 @@
 -- `writer::write_record` meets its contract: four stores and a copied label put the record. Assumes nothing.
 use mathlib.Core.Path.{ap, ◌∙◌}
 use native.Mathlib.Omega.{arith}
-use lib.ListN.{length, length-set}
-use borrow.Author.Rules.{rules}
-use Rattle.writer.proofs.Lists.{put-length}
+use lib.ListN.{length}
 use Rattle.writer.proofs.Record.{label-fits, record_put}
 use Rattle.writer.proofs.write_record.Goals as goal
 
@@ -14,15 +12,3 @@ pub returns : goal.returns
 returns c =
     record_put c.requires _ c.flag_byte.ensures c.len_at-n.ensures.0 c.has_at-number.ensures.0
     c.span_at-child.ensures.0 (c.copy.ensures ∙ c.label_at-label.ensures)
-
-pub bounds-out-at-2 : goal.bounds-out-at-2
-bounds-out-at-2 c = simp length-set (omega arith)
-
-pub bounds-out-at-3 : goal.bounds-out-at-3
-bounds-out-at-3 c = simp length-set (omega arith)
-
-pub bounds-out-at-4 : goal.bounds-out-at-4
-bounds-out-at-4 c = simp length-set (omega arith)
-
-pub slice_bounds-copy-end : goal.slice_bounds-copy-end
-slice_bounds-copy-end c = simp length-set (omega arith)

@@ -1,17 +1,13 @@
 -- `writer::write_slots` meets its contract: the rows that are left are due, each with its level in the table. Assumes nothing.
-use mathlib.Core.Path.{◌≡◌}
-use Prim.Native.Nat.{ℕ, ◌-◌, ◌≤◌, ◌<◌}
+use Prim.Native.Nat.{ℕ}
 use native.Mathlib.Omega.{arith}
-use lib.ListN.{length, get_or-replicate, length-replicate, length-set}
-use borrow.Author.Rules.{rules}
-use Rattle.tree.specs.Tree.{Forest}
-use Rattle.writer.specs.Runs.{Run}
-use Rattle.writer.proofs.Lists.{put-length}
+use lib.ListN.{get_or-replicate, length-replicate, length-set}
 use Rattle.writer.proofs.Rows.{Flat, flat_start, flat_done, flat_room, flat_step, at, level_is, slot, head-deep, head_level}
 use Rattle.writer.proofs.write_slots.Goals as goal
+use Rattle.writer.proofs.write_slots.Goals.{In-loop-i}
 
 -- what is left of the forest that stands below the root, and its first node
-flat_at : (c : goal.In-loop-i)
+flat_at : (c : In-loop-i)
     → let v = c.loop-i in
     Flat c.args.words.now c.args.labels.now v.levels v.i c.args.n c.args.out.now c.args.at v.out v.place c.requires.forest
 flat_at c =
@@ -36,9 +32,6 @@ pub bounds-levels-end : goal.bounds-levels-end
 bounds-levels-end c =
     let h = at (flat_at (goal.at.bounds-levels-end c).In-loop-i) c.loop-i-test.true in
     omega (arith, c.start_at-start.ensures.0, c.len_at.ensures.0, (slot h).start, head-deep h)
-
-pub follows-sibling-requires : goal.follows-sibling-requires
-follows-sibling-requires c = record { used = c.loop-i-test.true; words = c.requires.within.words }
 
 pub write_record-place-requires : goal.write_record-place-requires
 write_record-place-requires c =

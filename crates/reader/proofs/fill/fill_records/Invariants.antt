@@ -1,12 +1,10 @@
 -- `reader::fill::fill_records` meets its contract: the records that are left are due, each with its path in the table. Assumes nothing.
-use mathlib.Core.Path.{◌≡◌, refl, ◌∙◌}
-use Prim.Native.Nat.{◌+◌, ◌-◌, ◌≤◌}
-use native.Mathlib.Omega.{arith}
-use lib.ListN.{length, length-set}
-use borrow.Author.Rules.{rules}
-use Rattle.tree.specs.Tree.{Tree, nodes_t}
-use Rattle.reader.specs.Fill.{Room, ImageOf}
-use Rattle.reader.proofs.Fills.{Left, First, left-start, left-done, left-next, first, len_is, level_is, path-is, whole, room_stays, slot_due, record_due}
+use mathlib.Core.Path.{◌≡◌}
+use Prim.Native.Nat.{◌-◌}
+use lib.ListN.{length}
+use Rattle.tree.specs.Tree.{Tree}
+use Rattle.reader.specs.Fill.{ImageOf}
+use Rattle.reader.proofs.Fills.{Left}
 use Rattle.reader.proofs.fill.fill_records.Given as goal
 
 abbrev pub invariant-loop-c : goal.invariant-loop-c

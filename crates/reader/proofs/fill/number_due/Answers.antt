@@ -1,6 +1,5 @@
 -- `reader::fill::number_due` meets its contract. Assumes nothing.
 use Rattle.slots.specs.Layout.{num_of}
-use borrow.Author.Rules.{rules}
 use Rattle.reader.proofs.fill.number_due.Goals as goal
 
 pub returns-then-has-eq0 : goal.returns-then-has-eq0
