@@ -17,17 +17,15 @@ use walk::Walk;
 mod results;
 
 pub fn yarnhollow_make(labels: &mut [u8], words: &mut [u32]) -> u32
-    ensures {
-      let was = lent labels.old words.old in
-      Changes over (make_call (size_in was)) result [] [] was (lent labels.new words.new) }
+    ensures { let was = lent labels.old words.old in
+        Changes over (make_call (size_in was)) result [] [] was (lent labels.new words.new) }
 {
     pool::make(labels, words).number()
 }
 
 pub fn yarnhollow_clear(labels: &mut [u8], words: &mut [u32]) -> u32
-    ensures {
-      let was = lent labels.old words.old in
-      Changes over (clear_call (tree_in was)) result [] [] was (lent labels.new words.new) }
+    ensures { let was = lent labels.old words.old in
+        Changes over (clear_call (tree_in was)) result [] [] was (lent labels.new words.new) }
 {
     pool::clear(labels, words).number()
 }
@@ -39,11 +37,10 @@ pub fn yarnhollow_get(
     number: &mut u64,
     looked: &mut usize,
 ) -> u32
-    ensures {
-      let t = tree_in (lent labels.now words.now) in
-      let results = number.old ∷ looked.old ∷ [] in
-      let results' = number.new ∷ looked.new ∷ [] in
-      Returns over_last (get_call t key.now) result results results' }
+    ensures { let t = tree_in (lent labels.now words.now) in
+        let results = number.old ∷ looked.old ∷ [] in
+        let results' = number.new ∷ looked.new ∷ [] in
+        Returns over_last (get_call t key.now) result results results' }
 {
     let answer = search::get(labels, words, key);
     results::store_got(answer, number, looked);
@@ -59,12 +56,11 @@ pub fn yarnhollow_insert(
     old: &mut u64,
     looked: &mut usize,
 ) -> u32
-    ensures {
-      let was = lent labels.old words.old in
-      let call = insert_call (tree_in was) (room_in was) key.now number in
-      let results = had_old.old ∷ old.old ∷ looked.old ∷ [] in
-      let results' = had_old.new ∷ old.new ∷ looked.new ∷ [] in
-      Changes over_flagged call result results results' was (lent labels.new words.new) }
+    ensures { let was = lent labels.old words.old in
+        let call = insert_call (tree_in was) (room_in was) key.now number in
+        let results = had_old.old ∷ old.old ∷ looked.old ∷ [] in
+        let results' = had_old.new ∷ old.new ∷ looked.new ∷ [] in
+        Changes over_flagged call result results results' was (lent labels.new words.new) }
 {
     let answer = insert::insert(labels, words, key, RuleNo(number));
     results::store_inserted(answer, had_old, old, looked);
@@ -78,12 +74,11 @@ pub fn yarnhollow_remove(
     old: &mut u64,
     looked: &mut usize,
 ) -> u32
-    ensures {
-      let was = lent labels.old words.old in
-      let call = remove_call (tree_in was) key.now in
-      let results = old.old ∷ looked.old ∷ [] in
-      let results' = old.new ∷ looked.new ∷ [] in
-      Changes over_last call result results results' was (lent labels.new words.new) }
+    ensures { let was = lent labels.old words.old in
+        let call = remove_call (tree_in was) key.now in
+        let results = old.old ∷ looked.old ∷ [] in
+        let results' = old.new ∷ looked.new ∷ [] in
+        Changes over_last call result results results' was (lent labels.new words.new) }
 {
     let answer = remove::remove(labels, words, key);
     results::store_got(answer, old, looked);
@@ -98,11 +93,10 @@ pub fn yarnhollow_longest(
     number: &mut u64,
     looked: &mut usize,
 ) -> u32
-    ensures {
-      let t = tree_in (lent labels.now words.now) in
-      let results = prefix_length.old ∷ number.old ∷ looked.old ∷ [] in
-      let results' = prefix_length.new ∷ number.new ∷ looked.new ∷ [] in
-      Returns over_last (longest_call t query.now) result results results' }
+    ensures { let t = tree_in (lent labels.now words.now) in
+        let results = prefix_length.old ∷ number.old ∷ looked.old ∷ [] in
+        let results' = prefix_length.new ∷ number.new ∷ looked.new ∷ [] in
+        Returns over_last (longest_call t query.now) result results results' }
 {
     let answer = search::longest(labels, words, query);
     results::store_prefixed(answer, prefix_length, number, looked);
@@ -116,11 +110,10 @@ pub fn yarnhollow_shared(
     shared_length: &mut usize,
     looked: &mut usize,
 ) -> u32
-    ensures {
-      let t = tree_in (lent labels.now words.now) in
-      let results = shared_length.old ∷ looked.old ∷ [] in
-      let results' = shared_length.new ∷ looked.new ∷ [] in
-      Returns over_last (shared_call t query.now) result results results' }
+    ensures { let t = tree_in (lent labels.now words.now) in
+        let results = shared_length.old ∷ looked.old ∷ [] in
+        let results' = shared_length.new ∷ looked.new ∷ [] in
+        Returns over_last (shared_call t query.now) result results results' }
 {
     let answer = search::shared(labels, words, query);
     results::store_sharing(answer, shared_length, looked);
@@ -149,12 +142,11 @@ pub fn yarnhollow_next(
     key_length: &mut usize,
     number: &mut u64,
 ) -> u32
-    ensures {
-      let t = tree_in (lent labels.now words.now) in
-      let l = last_given begun last.now in
-      let results = key_length.old ∷ number.old ∷ [] in
-      let results' = key_length.new ∷ number.new ∷ [] in
-      NextGiven t prefix.now l result results results' out.old out.new }
+    ensures { let t = tree_in (lent labels.now words.now) in
+        let l = last_given begun last.now in
+        let results = key_length.old ∷ number.old ∷ [] in
+        let results' = key_length.new ∷ number.new ∷ [] in
+        NextGiven t prefix.now l result results results' out.old out.new }
 {
     let step = resumed(prefix, last, begun).step(labels, words, out);
     let answer = step.answer;
@@ -169,26 +161,19 @@ pub fn yarnhollow_split(
     labels2: &mut [u8],
     words2: &mut [u32],
 ) -> u32
-    ensures {
-      let was = lent labels.old words.old in
-      let was₂ = lent labels2.old words2.old in
-      let call = split_call (tree_in was) (size_in was₂) prefix.now in
-      Splits call result was was₂ (lent labels.new words.new) (lent labels2.new words2.new) }
+    ensures { let was = lent labels.old words.old in
+        let was₂ = lent labels2.old words2.old in
+        let call = split_call (tree_in was) (size_in was₂) prefix.now in
+        Splits call result was was₂ (lent labels.new words.new) (lent labels2.new words2.new) }
 {
     split::split(labels, words, prefix, labels2, words2).number()
 }
 
-pub fn yarnhollow_counts(
-    labels: &[u8],
-    words: &[u32],
-    keys: &mut usize,
-    nodes: &mut usize,
-) -> u32
-    ensures {
-      let t = tree_in (lent labels.now words.now) in
-      let results = keys.old ∷ nodes.old ∷ [] in
-      let results' = keys.new ∷ nodes.new ∷ [] in
-      Returns over (counts_call t) result results results' }
+pub fn yarnhollow_counts(labels: &[u8], words: &[u32], keys: &mut usize, nodes: &mut usize) -> u32
+    ensures { let t = tree_in (lent labels.now words.now) in
+        let results = keys.old ∷ nodes.old ∷ [] in
+        let results' = keys.new ∷ nodes.new ∷ [] in
+        Returns over (counts_call t) result results results' }
 {
     let answer = pool::counts(labels, words);
     results::store_counted(answer, keys, nodes);
@@ -203,12 +188,11 @@ pub fn yarnhollow_write(
     tree_length: &mut usize,
     numbers_length: &mut usize,
 ) -> u32
-    ensures {
-      let t = tree_in (lent labels.now words.now) in
-      let results = tree_length.old ∷ numbers_length.old ∷ [] in
-      let results' = tree_length.new ∷ numbers_length.new ∷ [] in
-      let s = tree.old in
-      Written t result results results' s numbers.old tree.new numbers.new }
+    ensures { let t = tree_in (lent labels.now words.now) in
+        let results = tree_length.old ∷ numbers_length.old ∷ [] in
+        let results' = tree_length.new ∷ numbers_length.new ∷ [] in
+        let s = tree.old in
+        Written t result results results' s numbers.old tree.new numbers.new }
 {
     let answer = writer::write(labels, words, tree, numbers);
     results::store_written(answer, tree_length, numbers_length);
@@ -222,10 +206,9 @@ pub fn yarnhollow_read(
     numbers: &[u64],
     offset: &mut usize,
 ) -> u32
-    ensures {
-      let was = lent labels.old words.old in
-      let call = read_call (size_in was) tree.now numbers.now in
-      Changes over call result (offset.old ∷ []) (offset.new ∷ []) was (lent labels.new words.new) }
+    ensures { let was = lent labels.old words.old in
+        let call = read_call (size_in was) tree.now numbers.now in
+        Changes over call result (offset.old ∷ []) (offset.new ∷ []) was (lent labels.new words.new) }
 {
     let answer = reader::read(labels, words, tree, numbers);
     results::store_loaded(answer, offset);

@@ -9,9 +9,8 @@ use tree::{Counted, Got, Inserted, Loaded, Prefixed, Sharing, Stepped, Written};
 
 // How many nodes were looked at is told with 0 and with 3, so the last result of a search is stored with both.
 pub fn store_got(answer: Got, number: &mut u64, looked: &mut usize)
-    ensures {
-      let due = over_last (got_told answer).values (number.old ∷ looked.old ∷ []) in
-      HoldTwo due number.new looked.new }
+    ensures { let due = over_last (got_told answer).values (number.old ∷ looked.old ∷ []) in
+        HoldTwo due number.new looked.new }
 {
     match answer {
         Got::Number(v, n) => {
@@ -26,10 +25,9 @@ pub fn store_got(answer: Got, number: &mut u64, looked: &mut usize)
 
 // Whether insert found an old number is told only where it is done.
 pub fn store_inserted(answer: Inserted, had_old: &mut u32, old: &mut u64, looked: &mut usize)
-    ensures {
-      let results = had_old.old ∷ old.old ∷ looked.old ∷ [] in
-      let due = over_flagged (inserted_told answer).values results in
-      HoldThree due had_old.new old.new looked.new }
+    ensures { let results = had_old.old ∷ old.old ∷ looked.old ∷ [] in
+        let due = over_flagged (inserted_told answer).values results in
+        HoldThree due had_old.new old.new looked.new }
 {
     match answer {
         Inserted::New(n) => {
@@ -53,10 +51,9 @@ pub fn store_prefixed(
     number: &mut u64,
     looked: &mut usize,
 )
-    ensures {
-      let results = prefix_length.old ∷ number.old ∷ looked.old ∷ [] in
-      let due = over_last (prefixed_told answer).values results in
-      HoldThree due prefix_length.new number.new looked.new }
+    ensures { let results = prefix_length.old ∷ number.old ∷ looked.old ∷ [] in
+        let due = over_last (prefixed_told answer).values results in
+        HoldThree due prefix_length.new number.new looked.new }
 {
     match answer {
         Prefixed::Longest(m, v, n) => {
@@ -71,9 +68,8 @@ pub fn store_prefixed(
 }
 
 pub fn store_sharing(answer: Sharing, shared_length: &mut usize, looked: &mut usize)
-    ensures {
-      let due = over_last (sharing_told answer).values (shared_length.old ∷ looked.old ∷ []) in
-      HoldTwo due shared_length.new looked.new }
+    ensures { let due = over_last (sharing_told answer).values (shared_length.old ∷ looked.old ∷ []) in
+        HoldTwo due shared_length.new looked.new }
 {
     match answer {
         Sharing::Length(m, n) => {
@@ -87,9 +83,8 @@ pub fn store_sharing(answer: Sharing, shared_length: &mut usize, looked: &mut us
 
 // The length is that of the key given, or of the one that the output is too short for.
 pub fn store_stepped(answer: Stepped, key_length: &mut usize, number: &mut u64)
-    ensures {
-      let told = stepped_told answer in
-      GivesTwo told key_length.old number.old key_length.new number.new }
+    ensures { let told = stepped_told answer in
+        GivesTwo told key_length.old number.old key_length.new number.new }
 {
     match answer {
         Stepped::Key(n, v) => {
@@ -104,9 +99,8 @@ pub fn store_stepped(answer: Stepped, key_length: &mut usize, number: &mut u64)
 }
 
 pub fn store_counted(answer: Counted, keys: &mut usize, nodes: &mut usize)
-    ensures {
-      let told = counted_told answer in
-      GivesTwo told keys.old nodes.old keys.new nodes.new }
+    ensures { let told = counted_told answer in
+        GivesTwo told keys.old nodes.old keys.new nodes.new }
 {
     match answer {
         Counted::Counts(k, n) => {
@@ -119,9 +113,8 @@ pub fn store_counted(answer: Counted, keys: &mut usize, nodes: &mut usize)
 
 // The lengths written, or those that the outputs are too short for.
 pub fn store_written(answer: Written, tree_length: &mut usize, numbers_length: &mut usize)
-    ensures {
-      let told = written_told answer in
-      GivesTwo told tree_length.old numbers_length.old tree_length.new numbers_length.new }
+    ensures { let told = written_told answer in
+        GivesTwo told tree_length.old numbers_length.old tree_length.new numbers_length.new }
 {
     match answer {
         Written::Lengths(b, n) | Written::Short(b, n) => {

@@ -1,8 +1,7 @@
 -- What the parts of insert leave in a pool, record by record: ws and bs before, vs and cs after.
-use Rattle.std.specs.Prelude.{◌≡◌, List, [], ◌∷◌, ◌++◌, Bool, true, false, ℕ, suc, ◌+◌, ◌*◌, ◌-◌, ◌/◌, ◌≤◌, ◌<◌, ltb, length, get_or}
+use Rattle.std.specs.Prelude.{◌≡◌, List, [], ◌∷◌, ◌++◌, Bool, true, false, ℕ, ◌+◌, ◌-◌, ◌/◌, ◌≤◌, ◌<◌, ltb, length, get_or}
 use Rattle.std.proofs.Math.Option.{none, some}
 use Rattle.tree.specs.Key.{Key}
-use Rattle.tree.specs.Map.{Num}
 use Rattle.tree.specs.Tree.{nil}
 use Rattle.tree.specs.Insert.{leaf}
 use Rattle.search.specs.declared.Stop.{Stop}

@@ -52,15 +52,13 @@ fn new_nodes(stop: Stop, above: usize, len: usize) -> usize
 // Fills the slots from `at` on with a new leaf: a label over 255 bytes becomes 255 bytes without a number, over the rest
 // treated again in that way. Counterpart: `new`.
 fn chain(labels: &mut [u8], words: &mut [u32], at: Slot, start: usize, rest: &[u8], number: RuleNo)
-    requires {
-      let l = rest.now in
-      Within words.old labels.old (at.0 + leaf_nodes (length l)) × (1 ≤ length l) × (start + length l ≤ 4096) }
-    ensures {
-      let ws = words.old in
-      let bs = labels.old in
-      let vs = words.new in
-      let cs = labels.new in
-      Built ws bs vs cs at.0 (leaf_bares start rest.now number.0) }
+    requires { let l = rest.now in
+        Within words.old labels.old (at.0 + leaf_nodes (length l)) × (1 ≤ length l) × (start + length l ≤ 4096) }
+    ensures { let ws = words.old in
+        let bs = labels.old in
+        let vs = words.new in
+        let cs = labels.new in
+        Built ws bs vs cs at.0 (leaf_bares start rest.now number.0) }
 {
     if rest.len() <= LABEL_MAX {
         slots::put::put_linked(labels, words, at, start, rest, Stored::Number(number), 1);
@@ -99,19 +97,17 @@ fn fork_before(
     rest: &[u8],
     number: RuleNo,
 )
-    requires {
-      let ws = words.old in
-      let bs = labels.old in
-      Grows ws bs n k × Forks ws at.0 m rest.now × (k ≡ 1 + leaf_nodes (length rest.now)) × PoolRule ws bs }
-    ensures {
-      let ws = words.old in
-      let bs = labels.old in
-      let vs = words.new in
-      let cs = labels.new in
-      let i = at.0 in
-      let l = rest.now in
-      let new = fork_bares ws bs i m l number.0 true in
-      Replaced ws bs vs cs i 1 new × Loose vs (n + k) (i + 1) k 0 }
+    requires { let ws = words.old in
+        let bs = labels.old in
+        Grows ws bs n k × Forks ws at.0 m rest.now × (k ≡ 1 + leaf_nodes (length rest.now)) × PoolRule ws bs }
+    ensures { let ws = words.old in
+        let bs = labels.old in
+        let vs = words.new in
+        let cs = labels.new in
+        let i = at.0 in
+        let l = rest.now in
+        let new = fork_bares ws bs i m l number.0 true in
+        Replaced ws bs vs cs i 1 new × Loose vs (n + k) (i + 1) k 0 }
 {
     let start = slots::start_at(words, at) + m;
     let next = at.0 + 1;
@@ -133,19 +129,17 @@ fn fork_behind(
     rest: &[u8],
     number: RuleNo,
 )
-    requires {
-      let ws = words.old in
-      let bs = labels.old in
-      Grows ws bs n k × Forks ws at.0 m rest.now × (k ≡ 1 + leaf_nodes (length rest.now)) × PoolRule ws bs }
-    ensures {
-      let ws = words.old in
-      let bs = labels.old in
-      let vs = words.new in
-      let cs = labels.new in
-      let i = at.0 in
-      let l = rest.now in
-      let new = fork_bares ws bs i m l number.0 false in
-      Replaced ws bs vs cs i (span_of ws i) new × Loose vs (n + k) (i + 1) k 0 }
+    requires { let ws = words.old in
+        let bs = labels.old in
+        Grows ws bs n k × Forks ws at.0 m rest.now × (k ≡ 1 + leaf_nodes (length rest.now)) × PoolRule ws bs }
+    ensures { let ws = words.old in
+        let bs = labels.old in
+        let vs = words.new in
+        let cs = labels.new in
+        let i = at.0 in
+        let l = rest.now in
+        let new = fork_bares ws bs i m l number.0 false in
+        Replaced ws bs vs cs i (span_of ws i) new × Loose vs (n + k) (i + 1) k 0 }
 {
     let start = slots::start_at(words, at) + m;
     let lower = at.0 + 1;
@@ -159,10 +153,9 @@ fn fork_behind(
 
 // Whether the first byte of `rest` is below the byte of the slot's label behind its first m.
 fn byte_below(labels: &[u8], words: &[u32], at: Slot, m: usize, rest: &[u8]) -> bool
-    requires {
-      let ws = words.now in
-      let i = at.0 in
-      Within ws labels.now (i + 1) × (m < len_of ws i) × (len_of ws i ≤ 255) × (1 ≤ length rest.now) }
+    requires { let ws = words.now in
+        let i = at.0 in
+        Within ws labels.now (i + 1) × (m < len_of ws i) × (len_of ws i ≤ 255) × (1 ≤ length rest.now) }
     ensures { result ≡ fork_side words.now labels.now at.0 m rest.now }
 {
     let label = slots::label_at(labels, words, at);
@@ -182,20 +175,18 @@ fn fork_label(
     rest: &[u8],
     number: RuleNo,
 )
-    requires {
-      let ws = words.old in
-      let bs = labels.old in
-      Grows ws bs n k × Forks ws at.0 m rest.now × (k ≡ 1 + leaf_nodes (length rest.now)) × PoolRule ws bs }
-    ensures {
-      let ws = words.old in
-      let bs = labels.old in
-      let vs = words.new in
-      let cs = labels.new in
-      let i = at.0 in
-      let l = rest.now in
-      let side = fork_side ws bs i m l in
-      let new = fork_bares ws bs i m l number.0 side in
-      Replaced ws bs vs cs i (fork_was ws i side) new × Loose vs (n + k) (i + 1) k 0 }
+    requires { let ws = words.old in
+        let bs = labels.old in
+        Grows ws bs n k × Forks ws at.0 m rest.now × (k ≡ 1 + leaf_nodes (length rest.now)) × PoolRule ws bs }
+    ensures { let ws = words.old in
+        let bs = labels.old in
+        let vs = words.new in
+        let cs = labels.new in
+        let i = at.0 in
+        let l = rest.now in
+        let side = fork_side ws bs i m l in
+        let new = fork_bares ws bs i m l number.0 side in
+        Replaced ws bs vs cs i (fork_was ws i side) new × Loose vs (n + k) (i + 1) k 0 }
 {
     if byte_below(labels, words, at, m, rest) {
         fork_before(labels, words, at, n, k, m, rest, number);
@@ -206,16 +197,13 @@ fn fork_label(
 
 // The key ends at the slot: its number is set, and the old one given back. No span changes.
 fn set_number(words: &mut [u32], at: Slot, number: RuleNo, looked: Looked) -> Inserted
-    requires {
-      let ws = words.old in
-      (words_for (nodes_of ws) ≤ length ws) × (at.0 < nodes_of ws) × (len_of ws at.0 ≤ 255) }
-    ensures placed {
-      let ws = words.old in
-      let vs = words.new in
-      ((bs : List ℕ) → PoolRule ws bs → Placed ws bs vs bs at.0 1 (set_bares ws bs at.0 number.0)) }
-    ensures told {
-      let old = num_at words.old at.0 in
-      inserted_told result ≡ done (numbers_w old (looked.0 ∷ [])) }
+    requires { let ws = words.old in
+        (words_for (nodes_of ws) ≤ length ws) × (at.0 < nodes_of ws) × (len_of ws at.0 ≤ 255) }
+    ensures placed { let ws = words.old in
+        let vs = words.new in
+        ((bs : List ℕ) → PoolRule ws bs → Placed ws bs vs bs at.0 1 (set_bares ws bs at.0 number.0)) }
+    ensures told { let old = num_at words.old at.0 in
+        inserted_told result ≡ done (numbers_w old (looked.0 ∷ [])) }
 {
     let len = slots::len_at(words, at);
     let old = slots::put::stored_at(words, at);
@@ -238,15 +226,13 @@ fn add_leaf(
     rest: &[u8],
     number: RuleNo,
 )
-    requires {
-      let ws = words.old in
-      let bs = labels.old in
-      Grows ws bs n k × Opens ws bs at.0 start rest.now × (k ≡ leaf_nodes (length rest.now)) }
-    ensures {
-      let was = lent labels.old words.old in
-      let is = lent labels.new words.new in
-      let leaf = leaf_bares start rest.now number.0 in
-      Placed was.words was.labels is.words is.labels at.0 0 leaf }
+    requires { let ws = words.old in
+        let bs = labels.old in
+        Grows ws bs n k × Opens ws bs at.0 start rest.now × (k ≡ leaf_nodes (length rest.now)) }
+    ensures { let was = lent labels.old words.old in
+        let is = lent labels.new words.new in
+        let leaf = leaf_bares start rest.now number.0 in
+        Placed was.words was.labels is.words is.labels at.0 0 leaf }
 {
     splice::move_slots(labels, words, at, Slot(n), k);
     chain(labels, words, at, start, rest, number);
@@ -257,12 +243,11 @@ fn add_leaf(
 // keeps what was there. Counterpart: `split_at`.
 fn add_cut(labels: &mut [u8], words: &mut [u32], at: Slot, n: usize, m: usize, number: RuleNo)
     requires { Grows words.old labels.old n 1 × Cuts words.old at.0 m × PoolRule words.old labels.old }
-    ensures {
-      let was = lent labels.old words.old in
-      let is = lent labels.new words.new in
-      let cut = bare_at was.words was.labels at.0 in
-      let parts = front_of m (some number.0) cut ∷ back_of m cut ∷ [] in
-      Placed was.words was.labels is.words is.labels at.0 1 parts }
+    ensures { let was = lent labels.old words.old in
+        let is = lent labels.new words.new in
+        let cut = bare_at was.words was.labels at.0 in
+        let parts = front_of m (some number.0) cut ∷ back_of m cut ∷ [] in
+        Placed was.words was.labels is.words is.labels at.0 1 parts }
 {
     let lower = at.0 + 1;
     splice::move_slots(labels, words, at, Slot(n), 1);
@@ -282,18 +267,16 @@ fn add_fork(
     rest: &[u8],
     number: RuleNo,
 )
-    requires {
-      let ws = words.old in
-      let bs = labels.old in
-      Grows ws bs n k × Forks ws at.0 m rest.now × (k ≡ 1 + leaf_nodes (length rest.now)) × PoolRule ws bs }
-    ensures {
-      let was = lent labels.old words.old in
-      let is = lent labels.new words.new in
-      let q = rest.now in
-      let side = fork_side was.words was.labels at.0 m q in
-      let parts = fork_bares was.words was.labels at.0 m q number.0 side in
-      let slots = fork_was was.words at.0 side in
-      Placed was.words was.labels is.words is.labels at.0 slots parts }
+    requires { let ws = words.old in
+        let bs = labels.old in
+        Grows ws bs n k × Forks ws at.0 m rest.now × (k ≡ 1 + leaf_nodes (length rest.now)) × PoolRule ws bs }
+    ensures { let was = lent labels.old words.old in
+        let is = lent labels.new words.new in
+        let q = rest.now in
+        let side = fork_side was.words was.labels at.0 m q in
+        let parts = fork_bares was.words was.labels at.0 m q number.0 side in
+        let slots = fork_was was.words at.0 side in
+        Placed was.words was.labels is.words is.labels at.0 slots parts }
 {
     let below = at.0 + 1;
     fork_label(labels, words, at, n, k, m, rest, number);
@@ -311,13 +294,12 @@ fn place(
     key: &[u8],
     number: RuleNo,
 ) -> Inserted
-    requires {
-      let ws = words.old in
-      let bs = labels.old in
-      let q = key.now in
-      let due = new_nodes d.stop d.above (length q) in
-      PoolRule ws bs × (length q ≤ key_max) × ((t : Tree) → pool_tree ws bs ≡ some t → Lands t q d)
-          × Grows ws bs n k × (k ≡ due) }
+    requires { let ws = words.old in
+        let bs = labels.old in
+        let q = key.now in
+        let due = new_nodes d.stop d.above (length q) in
+        PoolRule ws bs × (length q ≤ key_max) × ((t : Tree) → pool_tree ws bs ≡ some t → Lands t q d)
+        × Grows ws bs n k × (k ≡ due) }
     ensures { InsertAllows key.now number.0 result (lent labels.old words.old) (lent labels.new words.new) }
 {
     let at = d.at;

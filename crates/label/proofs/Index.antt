@@ -1,7 +1,7 @@
 -- The first of a run, found place by place. Assumes nothing.
-use Rattle.std.proofs.Common.{◌≡◌, ℕ, suc, ◌+◌, ◌-◌, ◌<◌, ◌≤◌, List, [], ◌∷◌, length, get_or, take, drop, refl, ap, sym, ◌∙◌, arith, add-one, true, false}
+use Rattle.std.proofs.Common.{◌≡◌, ℕ, suc, ◌+◌, ◌-◌, ◌<◌, ◌≤◌, List, ◌∷◌, length, get_or, take, drop, refl, arith, add-one}
 use Rattle.std.proofs.Math.Seq.{drop-cons}
-use borrow.Author.Tests.{eqb-true, ne_eqb, eq-eqb}
+use borrow.Author.Tests.{ne_eqb, eq-eqb}
 use Rattle.label.specs.Runs.{index_of}
 
 -- what is left of a run at a place that it has

@@ -1,6 +1,6 @@
 -- Bytes as a number and first bytes as an order; what the moves of runs leave, place by place.
 use Rattle.std.specs.Prelude.{◌≡◌, List, [], ◌∷◌, length, get_or, cond, nat_eq}
-use Prim.Native.Nat.{ℕ, suc, ◌+◌, ◌*◌, ◌-◌, ◌≤◌, ◌<◌, Ordering}
+use Prim.Native.Nat.{ℕ, suc, ◌+◌, ◌*◌, ◌≤◌, ◌<◌, Ordering}
 use Rattle.label.specs.declared.First.{First}
 
 -- a first byte's answer as an order

@@ -1,13 +1,13 @@
 -- A turn of the loop over a list of numbers: what the rest of the list gives, the whole gives behind the numbers passed, and
 -- nothing else. Assumes nothing.
-use mathlib.Core.Path.{◌≡◌, refl, sym, ap, ◌∙◌}
+use mathlib.Core.Path.{◌≡◌, refl, ap, ◌∙◌}
 use mathlib.Core.List.{List, [], ◌∷◌, ◌++◌, append_assoc}
-use mathlib.Core.Logic.{inl, inr}
-use Prim.Native.Nat.{ℕ, suc, ◌+◌, ◌-◌, ◌<◌, ◌≤◌}
+use mathlib.Core.Logic.{inr}
+use Prim.Native.Nat.{ℕ, ◌+◌, ◌-◌, ◌<◌, ◌≤◌}
 use native.Mathlib.Numerals.{add-one}
 use native.Mathlib.Omega.{arith}
-use lib.ListN.{length, take, drop, set, length-set, length-append, length-take, length-drop}
-use lib.Seq.{take-suc-set, drop-drop, take-length, length-take-le, take_all}
+use lib.ListN.{length, take, drop, set, length-set, length-append, length-drop}
+use lib.Seq.{take-suc-set, drop-drop, length-take-le, take_all}
 use Rattle.label.specs.Runs.{index_of}
 use Rattle.std.specs.Prelude.{slice_range}
 use Rattle.line.specs.Spelling.{value, Number, NumberTaken, Listed, last, more, first_of, dash, ManyTaken, ListTaken}

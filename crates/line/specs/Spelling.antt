@@ -1,5 +1,5 @@
 -- What the words of a line stand for. Assumes nothing.
-use Rattle.std.specs.Prelude.{◌≡◌, List, [], ◌∷◌, ◌++◌, cond, ◌⊎◌, ℕ, zero, suc, ◌+◌, ◌-◌, ◌*◌, ◌/◌, ◌≤◌, ◌<◌, length, get_or, take, drop, ltb}
+use Rattle.std.specs.Prelude.{◌≡◌, List, [], ◌∷◌, cond, ◌⊎◌, ℕ, zero, suc, ◌+◌, ◌-◌, ◌*◌, ◌/◌, ◌≤◌, ◌<◌, length, get_or, take, drop, ltb}
 use Rattle.label.specs.Runs.{index_of}
 use Rattle.line.specs.declared.Taken.{Taken}
 use Rattle.line.specs.declared.Numeral.{Numeral}

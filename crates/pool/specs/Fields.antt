@@ -1,5 +1,5 @@
 -- What the small functions of the pool read and write.
-use Rattle.std.specs.Prelude.{List, [], ◌∷◌, ℕ, zero, suc, ◌+◌, set}
+use Rattle.std.specs.Prelude.{List, ℕ, zero, suc, ◌+◌, set}
 use Rattle.std.proofs.Math.Option.{Option, none, some}
 use Rattle.pool.specs.declared.Sized.{Sized}
 use Rattle.slots.specs.Layout.{nodes_word, has_of}

@@ -1,12 +1,12 @@
 -- The tree that a pool holds, or none where the lent lists are no pool. Slot i holds the i-th node of the tree in
 -- preorder; the slots behind the last node are free and may hold anything.
-use Rattle.std.specs.Prelude.{List, [], ◌∷◌, Bool, true, false, ℕ, zero, suc, ◌+◌, length, drop, eqb}
+use Rattle.std.specs.Prelude.{List, [], ◌∷◌, true, false, ℕ, zero, suc, ◌+◌, length, drop, eqb}
 use Rattle.std.proofs.Math.Option.{Option, none, some}
 use Rattle.tree.specs.Key.{Key, key_max}
 use Rattle.tree.specs.Map.{Num}
 use Rattle.tree.specs.Tree.{Forest, nil, node, Tree}
-use Rattle.tree.specs.Told.{Told, refusal}
-use Rattle.tree.specs.Reader.{Rule, at_most, equal, Tested, broken, sound, judge}
+use Rattle.tree.specs.Told.{refusal}
+use Rattle.tree.specs.Reader.{Rule, at_most, equal, broken, sound, judge}
 use Rattle.slots.specs.Layout.{words_for, bytes_for, slots_in, nodes_of, start_of, len_of, has_of, span_of, first_of, label_of, num_at}
 
 -- A test of a pool: what fails is told as 1.

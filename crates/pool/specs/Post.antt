@@ -1,7 +1,7 @@
 -- What a changing call leaves in the two lent slices, ws and bs before, vs and cs after; and the contracts of make, clear and
 -- counts.
 use Rattle.std.specs.Prelude.{◌≡◌, List, ℕ}
-use Rattle.std.proofs.Math.Option.{Option, some}
+use Rattle.std.proofs.Math.Option.{some}
 use Rattle.tree.specs.Tree.{Tree}
 use Rattle.tree.specs.Told.{Told, done, emptied_told, counted_told}
 use Rattle.tree.specs.Calls.{Outcome, refuses, leaves, make_call, clear_call, counts_call}

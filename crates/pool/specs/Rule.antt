@@ -1,5 +1,5 @@
 -- The rule as the code tests it: each slot in use by itself, in a loop over its children.
-use Rattle.std.specs.Prelude.{◌≡◌, List, Bool, true, false, ℕ, ◌+◌, ◌*◌, ◌≤◌, ◌<◌, length}
+use Rattle.std.specs.Prelude.{◌≡◌, List, Bool, true, false, ℕ, ◌+◌, ◌≤◌, ◌<◌, length}
 use Rattle.tree.specs.Key.{key_max}
 use Rattle.slots.specs.Layout.{words_for, bytes_for, nodes_of, start_of, len_of, has_of, span_of, first_of}
 

@@ -2,7 +2,7 @@
 -- the tree left is the definition's. (Results that a pointer lends keep their values where none is told: `Returns`.) Assumes nothing.
 use mathlib.Core.Path.{◌≡◌, refl, sym, ◌∙◌}
 use mathlib.Core.List.{List}
-use mathlib.Core.Option.{Option, none, some}
+use mathlib.Core.Option.{Option, some}
 use Prim.Native.Nat.{ℕ, zero, suc}
 use Rattle.tree.specs.Key.{Key}
 use Rattle.tree.specs.Map.{Pair}

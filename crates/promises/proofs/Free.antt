@@ -5,7 +5,6 @@ use mathlib.Core.List.{List}
 use mathlib.Core.Option.{Option, none, some}
 use Prim.Native.Nat.{ℕ}
 use native.Mathlib.Omega.{arith}
-use lib.ListN.{length}
 use Rattle.tree.specs.Key.{Key, Bytes}
 use Rattle.tree.specs.Tree.{Tree}
 use Rattle.tree.specs.Told.{Told, emptied_told, inserted_told, got_told, divided_told, loaded_told}
@@ -25,7 +24,7 @@ use Rattle.pool.specs.Lent.{Lent, tree_in, size_in, room_in}
 use Rattle.pool.specs.Free.{SameSlots}
 use Rattle.pool.specs.Post.{Does, MakeAllows, ClearAllows, CountsAllows}
 use Rattle.pool.proofs.Decode.{lengths-right, treed}
-use Rattle.pool.proofs.Free.{same-tree, SameLeft, outcome_alike}
+use Rattle.pool.proofs.Free.{same-tree, outcome_alike}
 use Rattle.search.specs.Post.{GetAllows, LongestAllows, SharedAllows}
 use Rattle.insert.specs.Post.{InsertAllows}
 use Rattle.remove.specs.Post.{RemoveAllows}

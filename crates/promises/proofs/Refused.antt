@@ -1,6 +1,6 @@
 -- Nothing changes on a refusal: where a call tells any number but 0, every lent slice is as it was. One law a call, from its
 -- contract alone. Assumes nothing.
-use mathlib.Core.Path.{◌≡◌, refl, sym, ap, ◌∙◌}
+use mathlib.Core.Path.{◌≡◌, refl, ap, ◌∙◌}
 use mathlib.Core.List.{List}
 use mathlib.Core.Option.{Option, none, some}
 use Prim.Native.Nat.{ℕ, zero, suc}

@@ -2,17 +2,16 @@
 -- are written and searched alike; and two accepted changes of different keys may change places. Assumes nothing.
 use mathlib.Core.Path.{◌≡◌, refl, sym, ap, ◌∙◌}
 use mathlib.Core.List.{List}
-use mathlib.Core.Option.{Option, none, some, bind}
+use mathlib.Core.Option.{Option, some, bind}
 use Prim.Native.Nat.{ℕ}
 use lib.ListN.{length}
 use Rattle.tree.specs.Key.{Key}
-use Rattle.tree.specs.Map.{Pairs}
 use Rattle.tree.specs.Tree.{Tree, empty, pairs_t}
 use Rattle.tree.specs.Insert.{insert_t}
 use Rattle.tree.specs.Remove.{remove_t, clear_t}
 use Rattle.tree.specs.Split.{halves, split_t}
 use Rattle.tree.specs.Told.{emptied_told, inserted_told, got_told, divided_told, written_told}
-use Rattle.tree.specs.Calls.{write_call, get_call, longest_call, shared_call}
+use Rattle.tree.specs.Calls.{get_call, longest_call, shared_call}
 use Rattle.tree.specs.declared.Got.{Got}
 use Rattle.tree.specs.declared.Prefixed.{Prefixed}
 use Rattle.tree.specs.declared.Sharing.{Sharing}

@@ -1,5 +1,5 @@
 -- One change of one key by a public call that tells 0: an insert of a key of at most 255 bytes, or a remove.
-use Rattle.std.specs.Prelude.{◌≡◌, ℕ}
+use Rattle.std.specs.Prelude.{ℕ}
 use Rattle.tree.specs.Key.{Key}
 use Rattle.tree.specs.Told.{inserted_told, got_told}
 use Rattle.tree.specs.declared.Inserted.{Inserted}

@@ -1,6 +1,6 @@
 -- What the fill finds in an image that has passed the check, and what it leaves in the pool. s is the image, ns the numbers;
 -- ws and bs are the pool's words and labels before, vs and cs after.
-use Rattle.std.specs.Prelude.{◌≡◌, List, ℕ, ◌+◌, ◌*◌, ◌≤◌, ◌<◌, length, get_or, take, drop}
+use Rattle.std.specs.Prelude.{◌≡◌, List, ℕ, ◌+◌, ◌≤◌, ◌<◌, length, get_or, take, drop}
 use Rattle.std.proofs.Math.Option.{some}
 use Rattle.tree.specs.Tree.{Tree, nodes_t, WellFormed}
 use Rattle.tree.specs.Image.{image_t, numbers_t}

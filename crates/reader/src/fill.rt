@@ -45,11 +45,10 @@ fn fill_slot(
     from: Cursor,
 )
     requires { SlotDue tree.now numbers.now words.old labels.old path from }
-    ensures {
-      let r = rec_read tree.now numbers.now path from in
-      let ws = words.old in
-      let bs = labels.old in
-      SlotPut ws bs words.new labels.new from.slot.0 r }
+    ensures { let r = rec_read tree.now numbers.now path from in
+        let ws = words.old in
+        let bs = labels.old in
+        SlotPut ws bs words.new labels.new from.slot.0 r }
 {
     let at = from.at;
     let len = wide(tree[at + 1]);
@@ -84,9 +83,8 @@ fn behind(tree: &[u8], from: Cursor) -> Cursor
 // The level that a record says.
 fn level_at(tree: &[u8], at: usize) -> Level
     requires { at + 4 ≤ length tree.now }
-    ensures {
-      let s = tree.now in
-      (result.0 ≡ 256 * get_or s (at + 2) 0 + get_or s (at + 3) 0) × (result.0 < 65536) }
+    ensures { let s = tree.now in
+        (result.0 ≡ 256 * get_or s (at + 2) 0 + get_or s (at + 3) 0) × (result.0 < 65536) }
 {
     Level(256 * wide(tree[at + 2]) + wide(tree[at + 3]))
 }
@@ -103,10 +101,9 @@ fn path_of(x: u16) -> usize
 // own level, and by then they have been passed. Counterpart: `set_child` and `set_sibling`.
 fn fill_records(labels: &mut [u8], words: &mut [u32], tree: &[u8], numbers: &[u64]) -> usize
     requires { RecordsDue tree.now numbers.now words.old labels.old }
-    ensures {
-      let s = tree.now in
-      let ns = numbers.now in
-      Recorded s ns words.old labels.old words.new labels.new result }
+    ensures { let s = tree.now in
+        let ns = numbers.now in
+        Recorded s ns words.old labels.old words.new labels.new result }
 {
     let mut starts = [0u16; 4098];
     let mut c = Cursor {
@@ -129,11 +126,10 @@ fn fill_records(labels: &mut [u8], words: &mut [u32], tree: &[u8], numbers: &[u6
 // The whole tree: its records, and then their count and their spans.
 pub fn fill_tree(labels: &mut [u8], words: &mut [u32], tree: &[u8], numbers: &[u64])
     requires { FillDue tree.now numbers.now words.old labels.old }
-    ensures {
-      let ws = words.old in
-      let bs = labels.old in
-      let call = read_call (slots_of ws bs) tree.now numbers.now in
-      Meets call (done []) ws bs words.new labels.new }
+    ensures { let ws = words.old in
+        let bs = labels.old in
+        let call = read_call (slots_of ws bs) tree.now numbers.now in
+        Meets call (done []) ws bs words.new labels.new }
 {
     let n = fill_records(labels, words, tree, numbers);
     settle(words, n);

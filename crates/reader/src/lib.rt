@@ -105,9 +105,8 @@ fn test_body(tree: &[u8], level: Level, least: usize, path: usize, from: Mark) -
 // The tests of one record below the root, in document 01's order.
 fn test_record(tree: &[u8], level: Level, least: usize, path: usize, from: Mark) -> Found
     requires { (from.at ≤ length tree.now) × (path ≤ 4096) × (1 ≤ level.0) }
-    ensures {
-      let s = tree.now in
-      found_of result ≡ judge (count_rules s from.left level.0 least path from.at) }
+    ensures { let s = tree.now in
+        found_of result ≡ judge (count_rules s from.left level.0 least path from.at) }
 {
     let head = test_head(tree, level, from.at);
     match head {
@@ -281,9 +280,8 @@ fn answer(verdict: Checked) -> Loaded
 // Reads an image into a pool, of which only the lengths are tested: old contents don't matter. With any number but 0 no lent
 // byte or word has changed. Counterpart: `KeyAndNode::deserialize`.
 pub fn read(labels: &mut [u8], words: &mut [u32], tree: &[u8], numbers: &[u64]) -> Loaded
-    ensures {
-      let was = lent labels.old words.old in
-      ReadAllows tree.now numbers.now result was (lent labels.new words.new) }
+    ensures { let was = lent labels.old words.old in
+        ReadAllows tree.now numbers.now result was (lent labels.new words.new) }
 {
     let Sized::Slots(slots) = slots_of(labels, words) else {
         return Loaded::NotPool;

@@ -16,10 +16,9 @@ use tree::{Got, KEY_MAX, Looked, Slot};
 // The key ends at the slot: its number is taken, if there is one.
 fn take_number(labels: &mut [u8], words: &mut [u32], at: Slot, looked: Looked) -> Got
     requires { Found words.old labels.old at.0 looked.0 }
-    ensures {
-      let was = lent labels.old words.old in
-      let is = lent labels.new words.new in
-      ((x : Found was.words was.labels at.0 looked.0) → RemoveAllows x.key result was is) }
+    ensures { let was = lent labels.old words.old in
+        let is = lent labels.new words.new in
+        ((x : Found was.words was.labels at.0 looked.0) → RemoveAllows x.key result was is) }
 {
     match slots::put::stored_at(words, at) {
         Stored::Nothing => Got::NotFound(looked),

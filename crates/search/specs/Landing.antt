@@ -2,10 +2,10 @@
 use Rattle.std.specs.Prelude.{◌≡◌, List, [], ◌∷◌, ◌++◌, length}
 use Rattle.std.proofs.Math.Option.{Option, none, some}
 use Prim.Native.Nat.{Ordering}
-use Prim.Native.Nat.{ℕ, suc, ◌+◌, ◌*◌, ◌≤◌, compare}
+use Prim.Native.Nat.{ℕ, suc, ◌≤◌, compare}
 use Rattle.tree.specs.Key.{Key, same, key_ends, label_ends, fork, part}
 use Rattle.tree.specs.Map.{Num}
-use Rattle.tree.specs.Tree.{Forest, node, Tree, Above, nodes_f}
+use Rattle.tree.specs.Tree.{Forest, node, Tree, Above}
 use Rattle.tree.specs.Search.{longest_t, looked_t}
 use Rattle.tree.specs.Context.{Context, plug, depth, Leads, before, parent}
 use Rattle.slots.specs.Layout.{WordsIn, RoomIn, len_of}

@@ -72,10 +72,9 @@ pub struct Descent {
 // How the key from p on meets the label of slot c.
 fn meet(labels: &[u8], words: &[u32], c: Slot, key: &[u8], p: usize) -> Meeting
     requires { InPool words.now labels.now c.0 × (p < length key.now) }
-    ensures {
-      let ws = words.now in
-      let bs = labels.now in
-      result ≡ meeting_of (drop p key.now) (label_of ws bs c.0) }
+    ensures { let ws = words.now in
+        let bs = labels.now in
+        result ≡ meeting_of (drop p key.now) (label_of ws bs c.0) }
 {
     match label::cmp_first_item(key[p], slots::first_at(labels, c)) {
         First::Below => return Meeting::Before,
@@ -127,10 +126,9 @@ fn landed(stop: Stop, at: Slot, parent: Slot, above: usize, best: Best, looked: 
 // are at most c.
 pub fn descend(labels: &[u8], words: &[u32], key: &[u8]) -> Descent
     requires { PoolRule words.now labels.now × (length key.now ≤ key_max) }
-    ensures {
-      let ws = words.now in
-      let bs = labels.now in
-      ((t : Tree) → pool_tree ws bs ≡ some t → Lands t key.now result) }
+    ensures { let ws = words.now in
+        let bs = labels.now in
+        ((t : Tree) → pool_tree ws bs ≡ some t → Lands t key.now result) }
 {
     let n = slots::nodes_in(words);
     let mut best = best_at(words, Slot(0), 0, Best::None);

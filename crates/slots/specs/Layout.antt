@@ -1,7 +1,7 @@
 -- The layout of a pool, said once: where the head and each slot's fields stand in the two lent lists, ws the words and bs the
 -- label bytes.
 use Rattle.std.specs.Prelude.{◌≡◌, List, ℕ, zero, suc, ◌+◌, ◌*◌, ◌/◌, ◌≤◌, ◌<◌, length, get_or, take, drop}
-use Rattle.std.proofs.Math.Option.{Option, none, some}
+use Rattle.std.proofs.Math.Option.{none, some}
 use Rattle.tree.specs.Map.{Num}
 
 -- Words of the head, words of a slot, how many of those are used, and bytes of a slot's room, in which its label stands

@@ -1,6 +1,5 @@
 -- The list of records: what the slots in use say, one after another, and what the nodes of a tree say in preorder.
 use Rattle.std.specs.Prelude.{List, [], ◌∷◌, ◌++◌, ℕ, zero, suc, ◌+◌, length}
-use Rattle.std.proofs.Math.Option.{Option, none, some}
 use Rattle.tree.specs.Key.{Key}
 use Rattle.tree.specs.Map.{Num}
 use Rattle.tree.specs.Tree.{Forest, nil, node, Tree, nodes_f, keys_w}

@@ -48,12 +48,11 @@ pub fn put_label(labels: &mut [u8], at: Slot, label: &[u8])
 pub fn put_slot(labels: &mut [u8], words: &mut [u32], at: Slot, head: Head, label: &[u8])
     requires words_in { WordsIn words.old at.0 × RoomIn labels.old at.0 }
     requires label_len_bound { (length label.now ≤ label_room) × (head.len ≡ length label.now) }
-    ensures {
-      let ws = words.old in
-      let bs = labels.old in
-      let vs = words.new in
-      let cs = labels.new in
-      SlotPut ws bs vs cs at.0 (rec_of head label.now) }
+    ensures { let ws = words.old in
+        let bs = labels.old in
+        let vs = words.new in
+        let cs = labels.new in
+        SlotPut ws bs vs cs at.0 (rec_of head label.now) }
 {
     put_words(words, at, head);
     put_label(labels, at, label);
@@ -121,19 +120,17 @@ pub fn put_linked(
     stored: Stored,
     span: usize,
 )
-    requires {
-      let i = at.0 in
-      let l = bytes.now in
-      let bs = labels.old in
-      let ws = words.old in
-      WordsIn ws i × RoomIn bs i × (start ≤ 4096) × (length l ≤ label_room) × (span < 4294967296) }
-    ensures {
-      let ws = words.old in
-      let bs = labels.old in
-      let vs = words.new in
-      let cs = labels.new in
-      let i = at.0 in
-      Filled ws bs vs cs i (bare_of start bytes.now (stored_of stored)) × (span_of vs i ≡ span) }
+    requires { let i = at.0 in
+        let l = bytes.now in
+        let bs = labels.old in
+        let ws = words.old in
+        WordsIn ws i × RoomIn bs i × (start ≤ 4096) × (length l ≤ label_room) × (span < 4294967296) }
+    ensures { let ws = words.old in
+        let bs = labels.old in
+        let vs = words.new in
+        let cs = labels.new in
+        let i = at.0 in
+        Filled ws bs vs cs i (bare_of start bytes.now (stored_of stored)) × (span_of vs i ≡ span) }
 {
     let head = head_of(start, bytes.len(), stored, span);
     put_slot(labels, words, at, head, bytes);
@@ -152,15 +149,13 @@ pub fn stored_at(words: &[u32], at: Slot) -> Stored
 
 // Keeps the first m bytes of a slot's label, with this number or none. The bytes stay where they are, and so does the span.
 pub fn keep_front(words: &mut [u32], at: Slot, m: usize, stored: Stored)
-    requires {
-      let ws = words.old in
-      WordsIn ws at.0 × (m ≤ len_of ws at.0) × (len_of ws at.0 ≤ label_room) }
-    ensures {
-      let ws = words.old in
-      let vs = words.new in
-      let i = at.0 in
-      ((bs : List ℕ) → RoomIn bs i → Filled ws bs vs bs i (front_of m (stored_of stored) (bare_at ws bs i)))
-          × (span_of vs i ≡ span_of ws i) }
+    requires { let ws = words.old in
+        WordsIn ws at.0 × (m ≤ len_of ws at.0) × (len_of ws at.0 ≤ label_room) }
+    ensures { let ws = words.old in
+        let vs = words.new in
+        let i = at.0 in
+        ((bs : List ℕ) → RoomIn bs i → Filled ws bs vs bs i (front_of m (stored_of stored) (bare_at ws bs i)))
+        × (span_of vs i ≡ span_of ws i) }
 {
     let start = start_at(words, at);
     put_head(words, at, start, m, stored);
@@ -168,16 +163,14 @@ pub fn keep_front(words: &mut [u32], at: Slot, m: usize, stored: Stored)
 
 // Keeps what is behind the first m bytes of a slot's label, with the slot's number and span, under m more bytes of the path.
 pub fn keep_back(labels: &mut [u8], words: &mut [u32], at: Slot, m: usize)
-    requires {
-      let ws = words.old in
-      let i = at.0 in
-      WordsIn ws i × RoomIn labels.old i × (m ≤ len_of ws i) × (len_of ws i ≤ label_room) × (start_of ws i ≤ 4096) }
-    ensures {
-      let ws = words.old in
-      let bs = labels.old in
-      let vs = words.new in
-      let cs = labels.new in
-      Filled ws bs vs cs at.0 (back_of m (bare_at ws bs at.0)) × (span_of vs at.0 ≡ span_of ws at.0) }
+    requires { let ws = words.old in
+        let i = at.0 in
+        WordsIn ws i × RoomIn labels.old i × (m ≤ len_of ws i) × (len_of ws i ≤ label_room) × (start_of ws i ≤ 4096) }
+    ensures { let ws = words.old in
+        let bs = labels.old in
+        let vs = words.new in
+        let cs = labels.new in
+        Filled ws bs vs cs at.0 (back_of m (bare_at ws bs at.0)) × (span_of vs at.0 ≡ span_of ws at.0) }
 {
     let from = LABEL_ROOM * at.0;
     let start = start_at(words, at);

@@ -1,5 +1,5 @@
 -- One slot altered in its place, its start and span kept: ws and bs before, vs and cs after.
-use Rattle.std.specs.Prelude.{◌≡◌, List, [], ◌++◌, ℕ, ◌+◌, ◌*◌, ◌≤◌, ◌<◌, length, get_or}
+use Rattle.std.specs.Prelude.{◌≡◌, List, [], ◌++◌, ℕ, ◌+◌, ◌≤◌, ◌<◌, length}
 use Rattle.std.proofs.Math.Option.{none}
 use Rattle.slots.specs.Layout.{SameHead, WordsIn, RoomIn, len_of, span_of}
 use Rattle.slots.specs.Bare.{Bare, bare_at, bare_of, Filled}

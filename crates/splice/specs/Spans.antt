@@ -1,5 +1,5 @@
 -- Spans while a splice is under way: which slots belong to a slot, and whose spans are still to grow.
-use Rattle.std.specs.Prelude.{◌≡◌, List, ℕ, ◌+◌, ◌*◌, ◌≤◌, ◌<◌, length, get_or}
+use Rattle.std.specs.Prelude.{◌≡◌, List, ℕ, ◌+◌, ◌≤◌, ◌<◌, length, get_or}
 use Rattle.slots.specs.Layout.{field_at, span_field, start_of, len_of, span_of}
 
 -- Of n slots those behind j and before e belong to slot j: they start at the end of its label or deeper, and slot e does not.

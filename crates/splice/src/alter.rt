@@ -13,10 +13,9 @@ use tree::Slot;
 // Makes the slot a gap.
 pub fn open_gap(words: &mut [u32], at: Slot)
     requires { WordsIn words.old at.0 }
-    ensures {
-      let ws = words.old in
-      let vs = words.new in
-      ((bs : List ℕ) → Altered ws bs vs bs at.0 (gap_of (bare_at ws bs at.0))) }
+    ensures { let ws = words.old in
+        let vs = words.new in
+        ((bs : List ℕ) → Altered ws bs vs bs at.0 (gap_of (bare_at ws bs at.0))) }
 {
     slots::set_len(words, at, 0);
 }
@@ -24,10 +23,9 @@ pub fn open_gap(words: &mut [u32], at: Slot)
 // Takes the slot's number away.
 pub fn drop_number(words: &mut [u32], at: Slot)
     requires { WordsIn words.old at.0 }
-    ensures {
-      let ws = words.old in
-      let vs = words.new in
-      ((bs : List ℕ) → Altered ws bs vs bs at.0 (numberless (bare_at ws bs at.0))) }
+    ensures { let ws = words.old in
+        let vs = words.new in
+        ((bs : List ℕ) → Altered ws bs vs bs at.0 (numberless (bare_at ws bs at.0))) }
 {
     slots::set_has(words, at, 0);
 }
@@ -35,12 +33,11 @@ pub fn drop_number(words: &mut [u32], at: Slot)
 // Puts the child's label behind the slot's own, and gives the slot the child's number or none.
 pub fn join_label(labels: &mut [u8], words: &mut [u32], at: Slot, child: Slot)
     requires { Joinable words.old labels.old at.0 child.0 }
-    ensures {
-      let ws = words.old in
-      let bs = labels.old in
-      let vs = words.new in
-      let cs = labels.new in
-      Altered ws bs vs cs at.0 (join_of (bare_at ws bs at.0) (bare_at ws bs child.0)) }
+    ensures { let ws = words.old in
+        let bs = labels.old in
+        let vs = words.new in
+        let cs = labels.new in
+        Altered ws bs vs cs at.0 (join_of (bare_at ws bs at.0) (bare_at ws bs child.0)) }
 {
     let from = LABEL_ROOM * child.0;
     let start = slots::start_at(words, at);
@@ -55,10 +52,9 @@ pub fn join_label(labels: &mut [u8], words: &mut [u32], at: Slot, child: Slot)
 // Makes the slots `from` .. `to` gaps.
 pub fn open_gaps(words: &mut [u32], from: Slot, to: Slot)
     requires { (from.0 ≤ to.0) × (words_for to.0 ≤ length words.old) }
-    ensures {
-      let ws = words.old in
-      let vs = words.new in
-      ((bs : List ℕ) → bytes_for to.0 ≤ length bs → Emptied ws bs vs from.0 to.0) }
+    ensures { let ws = words.old in
+        let vs = words.new in
+        ((bs : List ℕ) → bytes_for to.0 ≤ length bs → Emptied ws bs vs from.0 to.0) }
 {
     let end = to.0;
     let mut i = from.0;

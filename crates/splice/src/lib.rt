@@ -15,9 +15,8 @@ use tree::Slot;
 // deeper. The spans behind it are right, so it goes from child to child.
 fn extent(words: &[u32], n: usize, at: Slot) -> usize
     requires { (words_for n ≤ length words.now) × (n ≤ 16384) × (at.0 < n) × Linked words.now (at.0 + 1) n }
-    ensures {
-      let ws = words.now in
-      (result ≡ 1 + reach ws (start_of ws at.0 + len_of ws at.0) (at.0 + 1) (n - (at.0 + 1))) × (result ≤ 16384) }
+    ensures { let ws = words.now in
+        (result ≡ 1 + reach ws (start_of ws at.0 + len_of ws at.0) (at.0 + 1) (n - (at.0 + 1))) × (result ≤ 16384) }
 {
     let i = at.0;
     let base = slots::start_at(words, at) + slots::len_at(words, at);
@@ -56,13 +55,11 @@ pub fn settle(words: &mut [u32], n: usize)
 // Slot c on the way down to slot `at`, where k slots are new: if they belong to c, its span grows, and the next slot is its
 // first child; else the next slot is the one past its span. Gives that next slot.
 fn raise_slot(words: &mut [u32], c: Slot, at: Slot, k: usize) -> Slot
-    requires {
-      let ws = words.old in
-      let n = nodes_of ws in
-      (words_for n ≤ length ws) × (n ≤ 16384) × (c.0 < at.0) × Loose ws n at.0 k c.0 }
-    ensures {
-      let ws = words.old in
-      Raised ws words.new (nodes_of ws) at.0 k c.0 result.0 }
+    requires { let ws = words.old in
+        let n = nodes_of ws in
+        (words_for n ≤ length ws) × (n ≤ 16384) × (c.0 < at.0) × Loose ws n at.0 k c.0 }
+    ensures { let ws = words.old in
+        Raised ws words.new (nodes_of ws) at.0 k c.0 result.0 }
 {
     let i = c.0;
     let span = slots::span_at(words, c);
@@ -81,13 +78,11 @@ fn raise_slot(words: &mut [u32], c: Slot, at: Slot, k: usize) -> Slot
 // Lets the spans of the ancestors of slot `at` grow by the k slots that are new there. Goes from the root down and jumps over
 // the subtrees that end before it.
 fn raise(words: &mut [u32], at: Slot, k: usize)
-    requires {
-      let ws = words.old in
-      let n = nodes_of ws in
-      (words_for n ≤ length ws) × (n ≤ 16384) × Loose ws n at.0 k 0 }
-    ensures {
-      let ws = words.old in
-      Relinked ws words.new (nodes_of ws) }
+    requires { let ws = words.old in
+        let n = nodes_of ws in
+        (words_for n ≤ length ws) × (n ≤ 16384) × Loose ws n at.0 k 0 }
+    ensures { let ws = words.old in
+        Relinked ws words.new (nodes_of ws) }
 {
     let mut c = Slot(0);
     while c.0 < at.0 {
@@ -107,12 +102,11 @@ pub fn settle_at(words: &mut [u32], n: usize, at: Slot, k: usize)
 // Opens a gap: the slots `from` .. `to` move up by k.
 pub fn move_slots(labels: &mut [u8], words: &mut [u32], from: Slot, to: Slot, k: usize)
     requires { Room words.old labels.old from.0 to.0 k }
-    ensures {
-      let ws = words.old in
-      let bs = labels.old in
-      let vs = words.new in
-      let cs = labels.new in
-      Moved ws bs vs cs from.0 to.0 k }
+    ensures { let ws = words.old in
+        let bs = labels.old in
+        let vs = words.new in
+        let cs = labels.new in
+        Moved ws bs vs cs from.0 to.0 k }
 {
     let from = from.0;
     let to = to.0;
@@ -140,12 +134,11 @@ fn label_room(words: &[u32], at: Slot) -> usize
 // Moves one slot down: its words, and the bytes of its label.
 fn lower_slot(labels: &mut [u8], words: &mut [u32], from: Slot, to: Slot)
     requires { (to.0 < from.0) × WordsIn words.old from.0 × RoomIn labels.old from.0 }
-    ensures {
-      let ws = words.old in
-      let bs = labels.old in
-      let vs = words.new in
-      let cs = labels.new in
-      Filled ws bs vs cs to.0 (bare_at ws bs from.0) }
+    ensures { let ws = words.old in
+        let bs = labels.old in
+        let vs = words.new in
+        let cs = labels.new in
+        Filled ws bs vs cs to.0 (bare_at ws bs from.0) }
 {
     let i = from.0;
     let k = i - to.0;
@@ -162,12 +155,11 @@ fn lower_slot(labels: &mut [u8], words: &mut [u32], from: Slot, to: Slot)
 // Keeps slot `from`, as slot `to`, or passes it: one without a label is a gap. Gives the next place.
 fn sweep_slot(labels: &mut [u8], words: &mut [u32], from: Slot, to: Slot) -> Slot
     requires { (to.0 ≤ from.0) × WordsIn words.old from.0 × RoomIn labels.old from.0 }
-    ensures {
-      let ws = words.old in
-      let bs = labels.old in
-      let vs = words.new in
-      let cs = labels.new in
-      Swept ws bs vs cs from.0 to.0 result.0 }
+    ensures { let ws = words.old in
+        let bs = labels.old in
+        let vs = words.new in
+        let cs = labels.new in
+        Swept ws bs vs cs from.0 to.0 result.0 }
 {
     if slots::len_at(words, from) == 0 {
         return to;

@@ -1,15 +1,9 @@
 -- Records carried over from one pool into another: ws and bs are the pool that they come from, vs and cs the one that they
 -- go to before, us and ds after.
-use Rattle.std.specs.Prelude.{◌≡◌, List, [], ◌∷◌, ℕ, suc, ◌+◌, ◌*◌, ◌-◌, ◌≤◌, ◌<◌, length, drop}
-use Rattle.std.proofs.Math.Option.{none, some}
-use Rattle.tree.specs.Key.{Key}
-use Rattle.tree.specs.Map.{Num}
-use Rattle.tree.specs.Tree.{Tree}
-use Rattle.tree.specs.Told.{Told}
-use Rattle.tree.specs.Calls.{SplitOutcome, refuses_both, leaves_both}
+use Rattle.std.specs.Prelude.{◌≡◌, List, [], ℕ, ◌+◌, ◌-◌, ◌≤◌, ◌<◌, length, drop}
+use Rattle.std.proofs.Math.Option.{none}
 use Rattle.slots.specs.Layout.{nodes_of, start_of, len_of, has_of, span_of, num_of, num_at}
 use Rattle.slots.specs.Records.{Rec, rec_at, root_rec}
-use Rattle.pool.specs.Pool.{pool_tree, slots_of}
 use Rattle.pool.specs.Rule.{Within}
 
 -- A record with the number and the span of slot `from`, under a path of `start` bytes, with a label of its own

@@ -33,13 +33,12 @@ fn carry(
 )
     requires words_in { WordsIn words.now from.0 × (start < 4294967296) × (length label.now ≤ 255) }
     requires within { Within words2.old labels2.old (to.0 + 1) }
-    ensures {
-      let ws = words.now in
-      let ws2 = words2.old in
-      let bs2 = labels2.old in
-      let vs2 = words2.new in
-      let cs2 = labels2.new in
-      SlotPut ws2 bs2 vs2 cs2 to.0 (carried ws from.0 start label.now) }
+    ensures { let ws = words.now in
+        let ws2 = words2.old in
+        let bs2 = labels2.old in
+        let vs2 = words2.new in
+        let cs2 = labels2.new in
+        SlotPut ws2 bs2 vs2 cs2 to.0 (carried ws from.0 start label.now) }
 {
     let head = Head {
         start: start as u32,
@@ -61,18 +60,16 @@ fn lift_slot(
     words2: &mut [u32],
     to: Slot,
 )
-    requires fact {
-      let ws = words.now in
-      Within ws labels.now (from.0 + 1) × (base ≤ start_of ws from.0) × (len_of ws from.0 ≤ 255) }
+    requires fact { let ws = words.now in
+        Within ws labels.now (from.0 + 1) × (base ≤ start_of ws from.0) × (len_of ws from.0 ≤ 255) }
     requires within { Within words2.old labels2.old (to.0 + 1) }
-    ensures {
-      let ws = words.now in
-      let bs = labels.now in
-      let ws2 = words2.old in
-      let bs2 = labels2.old in
-      let vs2 = words2.new in
-      let cs2 = labels2.new in
-      SlotPut ws2 bs2 vs2 cs2 to.0 (lowered base (rec_at ws bs from.0)) }
+    ensures { let ws = words.now in
+        let bs = labels.now in
+        let ws2 = words2.old in
+        let bs2 = labels2.old in
+        let vs2 = words2.new in
+        let cs2 = labels2.new in
+        SlotPut ws2 bs2 vs2 cs2 to.0 (lowered base (rec_at ws bs from.0)) }
 {
     let start = slots::start_at(words, from) - base;
     let label = slots::label_at(labels, words, from);
@@ -92,14 +89,13 @@ fn lift(
 )
     requires { Liftable words.now labels.now from.0 count base
         × Within words2.old labels2.old (to.0 + count) }
-    ensures {
-      let ws = words.now in
-      let bs = labels.now in
-      let ws2 = words2.old in
-      let bs2 = labels2.old in
-      let vs2 = words2.new in
-      let cs2 = labels2.new in
-      Lifted ws bs ws2 bs2 vs2 cs2 from.0 to.0 count base }
+    ensures { let ws = words.now in
+        let bs = labels.now in
+        let ws2 = words2.old in
+        let bs2 = labels2.old in
+        let vs2 = words2.new in
+        let cs2 = labels2.new in
+        Lifted ws bs ws2 bs2 vs2 cs2 from.0 to.0 count base }
 {
     let from = from.0;
     let to = to.0;
@@ -136,17 +132,15 @@ fn put_root(words: &mut [u32], has: u32, number: RuleNo, nodes: usize)
 
 // Carries the subtree of a slot over, with the slot as the root.
 fn detach_node(labels: &[u8], words: &[u32], at: Slot, labels2: &mut [u8], words2: &mut [u32])
-    requires {
-      let ws = words.now in
-      Detachable ws labels.now at.0 × Within words2.old labels2.old (span_of ws at.0) }
-    ensures {
-      let ws = words.now in
-      let bs = labels.now in
-      let ws2 = words2.old in
-      let bs2 = labels2.old in
-      let vs2 = words2.new in
-      let cs2 = labels2.new in
-      Detached ws bs ws2 bs2 vs2 cs2 at.0 (start_of ws at.0 + len_of ws at.0) }
+    requires { let ws = words.now in
+        Detachable ws labels.now at.0 × Within words2.old labels2.old (span_of ws at.0) }
+    ensures { let ws = words.now in
+        let bs = labels.now in
+        let ws2 = words2.old in
+        let bs2 = labels2.old in
+        let vs2 = words2.new in
+        let cs2 = labels2.new in
+        Detached ws bs ws2 bs2 vs2 cs2 at.0 (start_of ws at.0 + len_of ws at.0) }
 {
     let span = slots::span_at(words, at);
     let base = slots::start_at(words, at) + slots::len_at(words, at);
@@ -174,18 +168,16 @@ fn top_slot(
     labels2: &mut [u8],
     words2: &mut [u32],
 )
-    requires {
-      let ws = words.now in
-      let i = at.0 in
-      Within ws labels.now (i + 1) × (m ≤ len_of ws i) × (len_of ws i ≤ 255) × Within words2.old labels2.old 2 }
-    ensures {
-      let ws = words.now in
-      let bs = labels.now in
-      let ws2 = words2.old in
-      let bs2 = labels2.old in
-      let vs2 = words2.new in
-      let cs2 = labels2.new in
-      SlotPut ws2 bs2 vs2 cs2 1 (topped m (rec_at ws bs at.0)) }
+    requires { let ws = words.now in
+        let i = at.0 in
+        Within ws labels.now (i + 1) × (m ≤ len_of ws i) × (len_of ws i ≤ 255) × Within words2.old labels2.old 2 }
+    ensures { let ws = words.now in
+        let bs = labels.now in
+        let ws2 = words2.old in
+        let bs2 = labels2.old in
+        let vs2 = words2.new in
+        let cs2 = labels2.new in
+        SlotPut ws2 bs2 vs2 cs2 1 (topped m (rec_at ws bs at.0)) }
 {
     let label = slots::label_at(labels, words, at);
     carry(words, at, 0, &label[m..], labels2, words2, Slot(1));
@@ -200,18 +192,16 @@ fn detach_label(
     labels2: &mut [u8],
     words2: &mut [u32],
 )
-    requires {
-      let ws = words.now in
-      let i = at.0 in
-      Detachable ws labels.now i × (m ≤ len_of ws i) × Within words2.old labels2.old (span_of ws i + 1) }
-    ensures {
-      let ws = words.now in
-      let bs = labels.now in
-      let ws2 = words2.old in
-      let bs2 = labels2.old in
-      let vs2 = words2.new in
-      let cs2 = labels2.new in
-      DetachedBelow ws bs ws2 bs2 vs2 cs2 at.0 m (start_of ws at.0 + m) }
+    requires { let ws = words.now in
+        let i = at.0 in
+        Detachable ws labels.now i × (m ≤ len_of ws i) × Within words2.old labels2.old (span_of ws i + 1) }
+    ensures { let ws = words.now in
+        let bs = labels.now in
+        let ws2 = words2.old in
+        let bs2 = labels2.old in
+        let vs2 = words2.new in
+        let cs2 = labels2.new in
+        DetachedBelow ws bs ws2 bs2 vs2 cs2 at.0 m (start_of ws at.0 + m) }
 {
     let span = slots::span_at(words, at);
     let base = slots::start_at(words, at) + m;
@@ -233,12 +223,11 @@ fn detach_label(
 // Takes the subtree of a slot out, and tidies from its parent up.
 fn leave(labels: &mut [u8], words: &mut [u32], at: Slot, parent: Slot)
     requires { Leaving words.old labels.old at.0 parent.0 }
-    ensures {
-      let ws = words.old in
-      let bs = labels.old in
-      let vs = words.new in
-      let cs = labels.new in
-      ((x : Leaving ws bs at.0 parent.0) → Tidied ws bs vs cs x.left) }
+    ensures { let ws = words.old in
+        let bs = labels.old in
+        let vs = words.new in
+        let cs = labels.new in
+        ((x : Leaving ws bs at.0 parent.0) → Tidied ws bs vs cs x.left) }
 {
     let end = at.0 + slots::span_at(words, at);
     splice::alter::open_gaps(words, at, Slot(end));
@@ -254,11 +243,10 @@ fn split_root(
     room: usize,
 ) -> Divided
     requires { Landed words.old labels.old Stop.Root 0 0 × Lengths words2.old labels2.old room }
-    ensures {
-      let was = lent labels.old words.old in
-      let was₂ = lent labels2.old words2.old in
-      ((x : Landed was.words was.labels Stop.Root 0 0)
-          → SplitAllows x.prefix result was was₂ (lent labels.new words.new) (lent labels2.new words2.new)) }
+    ensures { let was = lent labels.old words.old in
+        let was₂ = lent labels2.old words2.old in
+        ((x : Landed was.words was.labels Stop.Root 0 0)
+        → SplitAllows x.prefix result was was₂ (lent labels.new words.new) (lent labels2.new words2.new)) }
 {
     if slots::nodes_in(words) > room {
         return Divided::NoRoom;
@@ -280,11 +268,10 @@ fn split_node(
 ) -> Divided
     requires { Landed words.old labels.old Stop.Same at.0 parent.0
         × Lengths words2.old labels2.old room }
-    ensures {
-      let was = lent labels.old words.old in
-      let was₂ = lent labels2.old words2.old in
-      ((x : Landed was.words was.labels Stop.Same at.0 parent.0)
-          → SplitAllows x.prefix result was was₂ (lent labels.new words.new) (lent labels2.new words2.new)) }
+    ensures { let was = lent labels.old words.old in
+        let was₂ = lent labels2.old words2.old in
+        ((x : Landed was.words was.labels Stop.Same at.0 parent.0)
+        → SplitAllows x.prefix result was was₂ (lent labels.new words.new) (lent labels2.new words2.new)) }
 {
     if slots::span_at(words, at) > room {
         return Divided::NoRoom;
@@ -307,11 +294,10 @@ fn split_label(
 ) -> Divided
     requires { Landed words.old labels.old (Stop.Inside m) at.0 parent.0
         × Lengths words2.old labels2.old room }
-    ensures {
-      let was = lent labels.old words.old in
-      let was₂ = lent labels2.old words2.old in
-      ((x : Landed was.words was.labels (Stop.Inside m) at.0 parent.0)
-          → SplitAllows x.prefix result was was₂ (lent labels.new words.new) (lent labels2.new words2.new)) }
+    ensures { let was = lent labels.old words.old in
+        let was₂ = lent labels2.old words2.old in
+        ((x : Landed was.words was.labels (Stop.Inside m) at.0 parent.0)
+        → SplitAllows x.prefix result was was₂ (lent labels.new words.new) (lent labels2.new words2.new)) }
 {
     if slots::span_at(words, at) >= room {
         return Divided::NoRoom;
@@ -332,10 +318,9 @@ fn split_in(
 ) -> Divided
     requires { PoolRule words.old labels.old × (length prefix.now ≤ key_max)
         × Lengths words2.old labels2.old room }
-    ensures {
-      let was = lent labels.old words.old in
-      let was₂ = lent labels2.old words2.old in
-      SplitAllows prefix.now result was was₂ (lent labels.new words.new) (lent labels2.new words2.new) }
+    ensures { let was = lent labels.old words.old in
+        let was₂ = lent labels2.old words2.old in
+        SplitAllows prefix.now result was was₂ (lent labels.new words.new) (lent labels2.new words2.new) }
 {
     let d = search::descend(labels, words, prefix);
     let at = d.at;
@@ -358,10 +343,9 @@ pub fn split(
     labels2: &mut [u8],
     words2: &mut [u32],
 ) -> Divided
-    ensures {
-      let was = lent labels.old words.old in
-      let was₂ = lent labels2.old words2.old in
-      SplitAllows prefix.now result was was₂ (lent labels.new words.new) (lent labels2.new words2.new) }
+    ensures { let was = lent labels.old words.old in
+        let was₂ = lent labels2.old words2.old in
+        SplitAllows prefix.now result was was₂ (lent labels.new words.new) (lent labels2.new words2.new) }
 {
     if !pool::is_pool(labels, words) {
         return Divided::NotPool;

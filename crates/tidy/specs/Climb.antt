@@ -1,5 +1,5 @@
 -- The way up from a slot to the root: ws and bs are the pool before anything was taken out of it, vs and cs what it is now.
-use Rattle.std.specs.Prelude.{◌≡◌, List, ℕ, ◌+◌, ◌*◌, ◌≤◌, ◌<◌, length, get_or}
+use Rattle.std.specs.Prelude.{◌≡◌, List, ℕ, ◌+◌, ◌≤◌, ◌<◌, length}
 use Rattle.std.proofs.Math.Option.{some}
 use Rattle.tree.specs.Key.{Key, Bytes}
 use Rattle.tree.specs.Map.{Num}

@@ -25,11 +25,10 @@ pub enum Kids {
 // The first slot from `from` on, from span to span, that is no gap, or `end`.
 fn next_child(words: &[u32], from: Slot, end: Slot) -> Slot
     requires { (words_for end.0 ≤ length words.now) × Hops words.now end.0 from.0 }
-    ensures {
-      let ws = words.now in
-      let e = end.0 in
-      Hops ws e result.0
-          × ((bs : List ℕ) (s : ℕ) (f : Forest) → Sparse ws bs s e f from.0 → Next ws bs s e f from.0 result.0) }
+    ensures { let ws = words.now in
+        let e = end.0 in
+        Hops ws e result.0
+        × ((bs : List ℕ) (s : ℕ) (f : Forest) → Sparse ws bs s e f from.0 → Next ws bs s e f from.0 result.0) }
 {
     let end = end.0;
     let mut c = from.0;
@@ -44,15 +43,13 @@ fn next_child(words: &[u32], from: Slot, end: Slot) -> Slot
 
 // What children a slot has.
 fn kids_of(words: &[u32], at: Slot) -> Kids
-    requires fact {
-      let ws = words.now in
-      (words_for (at.0 + span_of ws at.0) ≤ length ws) × (1 ≤ span_of ws at.0) }
+    requires fact { let ws = words.now in
+        (words_for (at.0 + span_of ws at.0) ≤ length ws) × (1 ≤ span_of ws at.0) }
     requires hops { Hops words.now (at.0 + span_of words.now at.0) (at.0 + 1) }
-    ensures {
-      let ws = words.now in
-      let i = at.0 in
-      ((bs : List ℕ) (s b : ℕ) (l : Key) (w : Num) (kids : Forest)
-          → Ripe ws bs i s b l w kids → KidsAre ws bs i (s + suc (length l)) kids result) }
+    ensures { let ws = words.now in
+        let i = at.0 in
+        ((bs : List ℕ) (s b : ℕ) (l : Key) (w : Num) (kids : Forest)
+        → Ripe ws bs i s b l w kids → KidsAre ws bs i (s + suc (length l)) kids result) }
 {
     let end = at.0 + slots::span_at(words, at);
     let first = at.0 + 1;
@@ -71,15 +68,14 @@ fn kids_of(words: &[u32], at: Slot) -> Kids
 // A slot without a number takes in its only child, if the joined label has at most 255 bytes.
 fn take_in(labels: &mut [u8], words: &mut [u32], at: Slot, child: Slot)
     requires { Below words.old labels.old at.0 child.0 }
-    ensures {
-      let ws = words.old in
-      let bs = labels.old in
-      let vs = words.new in
-      let cs = labels.new in
-      let i = at.0 in
-      ((s b : ℕ) (l : Key) (kids : Forest)
-          → Ripe ws bs i s b l none kids → OnlyChild ws bs i (s + suc (length l)) kids child.0
-          → bytes_for (i + span_of ws i) ≤ length bs → NodeSettled ws bs vs cs i s b l none kids) }
+    ensures { let ws = words.old in
+        let bs = labels.old in
+        let vs = words.new in
+        let cs = labels.new in
+        let i = at.0 in
+        ((s b : ℕ) (l : Key) (kids : Forest)
+        → Ripe ws bs i s b l none kids → OnlyChild ws bs i (s + suc (length l)) kids child.0
+        → bytes_for (i + span_of ws i) ≤ length bs → NodeSettled ws bs vs cs i s b l none kids) }
 {
     if slots::len_at(words, at) + slots::len_at(words, child) > LABEL_MAX {
         return;
@@ -91,14 +87,13 @@ fn take_in(labels: &mut [u8], words: &mut [u32], at: Slot, child: Slot)
 // Settles one node: it goes if it has neither number nor child, and it takes in an only child if it has no number.
 fn settle_node(labels: &mut [u8], words: &mut [u32], at: Slot)
     requires { Ready words.old labels.old at.0 }
-    ensures {
-      let ws = words.old in
-      let bs = labels.old in
-      let vs = words.new in
-      let cs = labels.new in
-      let i = at.0 in
-      ((s b : ℕ) (l : Key) (w : Num) (kids : Forest)
-          → Ripe ws bs i s b l w kids → NodeSettled ws bs vs cs i s b l w kids) }
+    ensures { let ws = words.old in
+        let bs = labels.old in
+        let vs = words.new in
+        let cs = labels.new in
+        let i = at.0 in
+        ((s b : ℕ) (l : Key) (w : Num) (kids : Forest)
+        → Ripe ws bs i s b l w kids → NodeSettled ws bs vs cs i s b l w kids) }
 {
     if slots::has_at(words, at) > 0 {
         return;
@@ -129,12 +124,11 @@ fn parent_of(words: &[u32], at: Slot) -> Slot
 // Settles the slot and each of its ancestors but the root. Gaps are left where nodes went.
 fn climb(labels: &mut [u8], words: &mut [u32], from: Slot)
     requires { Climbing words.old labels.old from.0 }
-    ensures {
-      let ws = words.old in
-      let bs = labels.old in
-      let vs = words.new in
-      let cs = labels.new in
-      ((x : Climbing ws bs from.0) → Stage x.words x.labels x.whole x.final vs cs 0) }
+    ensures { let ws = words.old in
+        let bs = labels.old in
+        let vs = words.new in
+        let cs = labels.new in
+        ((x : Climbing ws bs from.0) → Stage x.words x.labels x.whole x.final vs cs 0) }
 {
     let mut c = from.0;
     while 0 < c {
@@ -147,12 +141,11 @@ fn climb(labels: &mut [u8], words: &mut [u32], from: Slot)
 // spans put right. Each is one pass.
 pub fn tidy(labels: &mut [u8], words: &mut [u32], from: Slot)
     requires { Climbing words.old labels.old from.0 }
-    ensures {
-      let ws = words.old in
-      let bs = labels.old in
-      let vs = words.new in
-      let cs = labels.new in
-      ((x : Climbing ws bs from.0) → Tidied ws bs vs cs x.final) }
+    ensures { let ws = words.old in
+        let bs = labels.old in
+        let vs = words.new in
+        let cs = labels.new in
+        ((x : Climbing ws bs from.0) → Tidied ws bs vs cs x.final) }
 {
     climb(labels, words, from);
     let n = slots::nodes_in(words);

@@ -1,5 +1,5 @@
 -- How a call that changes a pool came to be done: what was there, that it fits, and what is left. Assumes nothing.
-use mathlib.Core.Path.{◌≡◌, refl, sym, ap, ◌∙◌}
+use mathlib.Core.Path.{◌≡◌, refl}
 use mathlib.Core.Bool.{Bool, true, false}
 use mathlib.Core.List.{List, [], ◌∷◌}
 use mathlib.Core.Option.{Option, none, some}
@@ -15,7 +15,7 @@ use Rattle.tree.specs.Remove.{remove_t, clear_t}
 use Rattle.tree.specs.Split.{Halves, absent, halves, split_t}
 use Rattle.tree.specs.Image.{numbers_w}
 use Rattle.tree.specs.Reader.{Verdict, refused_with, ok, read_t}
-use Rattle.tree.specs.Calls.{Outcome, refuses, leaves, SplitOutcome, refuses_both, leaves_both, fits, make_call, clear_call, insert_call, remove_told, remove_call, split_told, split_call, read_told, read_call}
+use Rattle.tree.specs.Calls.{leaves, leaves_both, fits, make_call, clear_call, insert_call, remove_told, remove_call, split_told, split_call, read_told, read_call}
 use Rattle.tree.proofs.Judge.{never}
 
 fits-short : (k : Key) → fits k ≡ true → length k ≤ key_max

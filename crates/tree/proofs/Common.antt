@@ -1,14 +1,14 @@
 -- How many leading bytes two keys share: a loop's steps, and how a key and a label part by that number. Assumes nothing.
 use mathlib.Core.Path.{◌≡◌, refl, sym, ap, ◌∙◌}
-use mathlib.Core.List.{List, [], ◌∷◌, ◌++◌}
-use mathlib.Core.Option.{Option, none, some}
-use Prim.Native.Nat.{ℕ, zero, suc, ◌+◌, ◌≤◌, ◌<◌, compare}
+use mathlib.Core.List.{[], ◌∷◌}
+use mathlib.Core.Option.{none, some}
+use Prim.Native.Nat.{ℕ, suc, ◌+◌, ◌≤◌, ◌<◌}
 use native.Mathlib.Omega.{arith}
 use native.Mathlib.Numerals.{add-one}
 use lib.ListN.{length, take, drop, get_or, drop_of_length-le}
 use lib.Seq.{drop-cons}
 use Rattle.tree.specs.Key.{Key, common, strip, Parting, same, key_ends, label_ends, fork, part, push}
-use Rattle.tree.proofs.Order.{Cmp, less, even, more, cmp, cmp_refl}
+use Rattle.tree.proofs.Order.{less, even, more, cmp, cmp_refl}
 
 common-nil : (k : Key) → common k [] ≡ 0
 unfolding common

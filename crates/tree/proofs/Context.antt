@@ -1,12 +1,9 @@
 -- Each step of the tree goes the key's way down, through what stands around a forest. Assumes nothing.
-use mathlib.Core.Path.{◌≡◌, refl, sym, ap, ◌∙◌}
-use mathlib.Core.List.{List, [], ◌∷◌, ◌++◌, append_assoc, append-nil}
-use mathlib.Core.Option.{Option, none, some}
-use Prim.Native.Nat.{ℕ, zero, suc, ◌+◌, ◌≤◌, ◌<◌}
-use lib.ListN.{length}
-use Rattle.tree.specs.Key.{Key, strip, part, label_ends}
-use Rattle.tree.specs.Map.{Num}
-use Rattle.tree.specs.Tree.{Forest, nil, node, Tree, nodes_f}
+use mathlib.Core.Path.{◌≡◌, refl, ap, ◌∙◌}
+use mathlib.Core.List.{◌∷◌, ◌++◌, append_assoc}
+use Prim.Native.Nat.{ℕ}
+use Rattle.tree.specs.Key.{Key}
+use Rattle.tree.specs.Tree.{Forest, node}
 use Rattle.tree.specs.Search.{looks_f}
 use Rattle.tree.specs.Insert.{insert_f}
 use Rattle.tree.specs.Remove.{erase_f}

@@ -2,12 +2,10 @@
 -- nodes the searches look at, and images with bits that stand alone: what the definitions give, beside what is due; and
 -- one proof over the table. Assumes nothing.
 use mathlib.Core.Path.{◌≡◌, refl}
-use mathlib.Core.List.{List, [], ◌∷◌, ◌++◌, map}
-use mathlib.Core.Option.{Option, none, some}
-use mathlib.Core.Bool.{Bool, true, false}
+use mathlib.Core.List.{List, [], ◌∷◌, map}
+use mathlib.Core.Option.{some}
 use Prim.Native.Nat.{ℕ, ◌+◌}
-use lib.ListN.{length}
-use Rattle.tree.specs.Key.{Key, order, strip, common, part, push, key_max, pick}
+use Rattle.tree.specs.Key.{strip, part, push, key_max, pick}
 use Rattle.tree.specs.Map.{Pairs}
 use Rattle.tree.specs.Tree.{Tree, empty, room, pairs_f, pairs_t, labelled, own, nodes_f, nodes_t}
 use Rattle.tree.specs.Search.{looks_f, looks_t, get_in, get_t, met, longest_in, longest_t, shared_in, shared_t, looked_t}
@@ -18,7 +16,7 @@ use Rattle.tree.specs.Image.{flags_w, flags_f, flags, image_f, image_t, numbers_
 use Rattle.tree.specs.Told.{Told, done, refusal, refusal_at}
 use Rattle.tree.specs.Reader.{judge, below, number_of, numbers_past, over_kids, read_node, over_rest, read_kids, read_t}
 use Rattle.tree.specs.Cleared.{lone, cleared_flag, cleared_from, cleared}
-use Rattle.tree.specs.Calls.{Outcome, refuses, leaves, SplitOutcome, refuses_both, leaves_both, fits, number_told, longest_told, get_call, insert_call, longest_call, shared_call, remove_told, remove_call, split_told, split_call, both, write_call, read_told, read_call}
+use Rattle.tree.specs.Calls.{Outcome, refuses, leaves, SplitOutcome, refuses_both, leaves_both, fits, number_told, longest_told, get_call, insert_call, longest_call, shared_call, remove_told, remove_call, split_told, split_call, read_told, read_call}
 
 -- What an example shows: what is told; an image with its numbers; the pairs of a tree and its number of nodes
 pub data Shown : Type 0 where

@@ -1,15 +1,14 @@
 -- What a key finds in a tree: the easy form of get, which the laws are about, and an algebra of maps to state them in.
 -- Assumes nothing.
 use mathlib.Core.Path.{◌≡◌, refl, sym, ap, ◌∙◌, fun_ext}
-use mathlib.Core.List.{List, [], ◌∷◌, ◌++◌, append-nil}
+use mathlib.Core.List.{[], ◌∷◌, ◌++◌}
 use mathlib.Core.Option.{Option, none, some}
 use Prim.Native.Nat.{ℕ, ◌≤◌, ◌<◌, compare, Ordering}
 use native.Mathlib.Omega.{arith}
-use lib.ListN.{length}
 use Rattle.tree.specs.Key.{Key, order, strip}
 use Rattle.tree.specs.Map.{Num}
 use Rattle.tree.specs.Tree.{Forest, nil, node, Tree, Above, empty}
-use Rattle.tree.proofs.Order.{Cmp, less, even, more, cmp, cmp_lt, cmp_gt, cmp_refl, three, order_cons, order_refl, Line, below, level, over, line}
+use Rattle.tree.proofs.Order.{less, even, more, cmp, cmp_lt, cmp_gt, cmp_refl, three, order_cons, order_refl, below, level, over, line}
 use Rattle.tree.proofs.Parts.{strip-append}
 
 -- What a map m finds at what is left of a key

@@ -1,7 +1,7 @@
 -- Every node that has a number or a child leads to a stored key. Assumes nothing.
 use mathlib.Core.Path.{◌≡◌, refl, ◌∙◌}
-use mathlib.Core.List.{List, [], ◌∷◌, ◌++◌}
-use mathlib.Core.Option.{Option, none, some}
+use mathlib.Core.List.{[], ◌∷◌, ◌++◌}
+use mathlib.Core.Option.{none, some}
 use Prim.Native.Nat.{ℕ}
 use Rattle.tree.specs.Key.{Key}
 use Rattle.tree.specs.Map.{Num}

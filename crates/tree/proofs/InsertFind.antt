@@ -1,15 +1,15 @@
 -- What a key finds after an insert. Assumes nothing.
 use mathlib.Core.Path.{◌≡◌, refl, sym, ap, ◌∙◌, fun_ext}
-use mathlib.Core.List.{List, [], ◌∷◌, ◌++◌, append-nil}
-use mathlib.Core.Option.{Option, none, some}
-use Prim.Native.Nat.{ℕ, zero, suc, ◌≤◌, ◌<◌, compare}
+use mathlib.Core.List.{[], ◌∷◌, append-nil}
+use mathlib.Core.Option.{none, some}
+use Prim.Native.Nat.{ℕ, zero, suc, ◌<◌}
 use native.Mathlib.Omega.{arith}
 use lib.ListN.{length, take, drop, take-append-drop}
 use Rattle.tree.specs.Key.{Key, Parting, same, key_ends, label_ends, fork, part}
 use Rattle.tree.specs.Map.{Num}
 use Rattle.tree.specs.Tree.{Forest, nil, node, Tree, Above, room}
 use Rattle.tree.specs.Insert.{chain, leaf, beside, insert_f, insert_t}
-use Rattle.tree.proofs.Order.{Cmp, less, even, more, cmp, cmp_lt, cmp_gt, cmp_refl, three}
+use Rattle.tree.proofs.Order.{less, even, more, cmp, cmp_lt, cmp_gt, cmp_refl, three}
 use Rattle.tree.proofs.Parts.{Parts, parts}
 use Rattle.tree.proofs.Find.{look, find_f, find_t, at, upd, upd_f, node_sem, at-append, at_upd, look_node, look_here, look_there, above-none, on-rest, on-node, node-same, nowhere, at_nowhere, look_nil}
 

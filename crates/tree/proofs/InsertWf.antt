@@ -1,15 +1,15 @@
 -- Insert keeps a tree well-formed. Assumes nothing.
-use mathlib.Core.Path.{◌≡◌, refl, sym, ap, ◌∙◌, subst}
-use mathlib.Core.List.{List, [], ◌∷◌, ◌++◌}
-use mathlib.Core.Option.{Option, none, some}
+use mathlib.Core.Path.{◌≡◌, refl, ap, subst}
+use mathlib.Core.List.{[], ◌∷◌, ◌++◌}
+use mathlib.Core.Option.{none, some}
 use Prim.Native.Nat.{ℕ, zero, suc, ◌+◌, ◌≤◌, ◌<◌}
 use native.Mathlib.Omega.{arith}
 use lib.ListN.{length, take, drop, length-append, length-take, length-drop, take-append-drop}
 use Rattle.tree.specs.Key.{Key, Bytes, key_max, Parting, same, key_ends, label_ends, fork, part}
 use Rattle.tree.specs.Map.{Num}
-use Rattle.tree.specs.Tree.{Forest, nil, node, Tree, Above, Used, NodeRule, Wf, WellFormed, room}
+use Rattle.tree.specs.Tree.{Forest, nil, node, Tree, Above, Used, Wf, WellFormed, room}
 use Rattle.tree.specs.Insert.{chain, leaf, beside, insert_f, insert_t}
-use Rattle.tree.proofs.Order.{Cmp, less, even, more, cmp}
+use Rattle.tree.proofs.Order.{less, even, more, cmp}
 use Rattle.tree.proofs.Parts.{Parts, parts, bytes_left, bytes-right}
 use Rattle.tree.proofs.Shapes.{wf-beside}
 use Rattle.tree.proofs.InsertFind.{insert_f_lt, insert_f_gt, insert_f-same, insert_f-key_ends, insert_f-label_ends, insert_f-fork}

@@ -1,20 +1,18 @@
 -- The looks of a search, case by case; get from them is what the key finds; how many there are. Assumes nothing.
-use mathlib.Core.Path.{◌≡◌, refl, sym, ap, ◌∙◌, fun_ext}
-use mathlib.Core.Bool.{Bool, true, false}
+use mathlib.Core.Path.{◌≡◌, refl, sym, ap, ◌∙◌}
 use mathlib.Core.List.{List, [], ◌∷◌, ◌++◌, append-nil}
-use mathlib.Core.Option.{Option, none, some}
-use Prim.Native.Nat.{ℕ, zero, suc, ◌+◌, ◌*◌, ◌-◌, ◌≤◌, ◌<◌, compare}
+use mathlib.Core.Option.{none, some}
+use Prim.Native.Nat.{ℕ, suc, ◌+◌, ◌<◌}
 use native.Mathlib.Nat.{zero-add}
 use native.Mathlib.Omega.{arith}
 use lib.ListN.{length, length-append}
-use lib.Dec.{eqb}
 use borrow.Author.Tests.{eq-eqb, ne_eqb}
-use Rattle.tree.specs.Key.{Key, Bytes, strip, same, key_ends, label_ends, fork, part}
+use Rattle.tree.specs.Key.{Key, strip, same, key_ends, label_ends, fork, part}
 use Rattle.tree.specs.Map.{Num}
-use Rattle.tree.specs.Tree.{Forest, nil, node, Tree, Above, Wf, WellFormed}
-use Rattle.tree.specs.Search.{Look, in_part, whole, looks_f, looks_t, get_in, get_t, looked_t}
-use Rattle.tree.proofs.Order.{Cmp, less, even, more, cmp, cmp_lt, cmp_gt, cmp_refl}
-use Rattle.tree.proofs.Parts.{Parted, alike, inside, beyond, apart, parted, strip-append, strip-short, strip-fork}
+use Rattle.tree.specs.Tree.{Forest, nil, node, Tree}
+use Rattle.tree.specs.Search.{Look, in_part, whole, looks_f, looks_t, get_in, get_t}
+use Rattle.tree.proofs.Order.{less, even, more, cmp, cmp_lt, cmp_gt, cmp_refl}
+use Rattle.tree.proofs.Parts.{alike, inside, beyond, apart, parted, strip-append, strip-short, strip-fork}
 use Rattle.tree.proofs.Find.{under, look, find_f, find_t, find_f_lt, find_f_eq, find_f_gt}
 
 module _ (d b : ℕ) (l : Key) (w : Num) (kids rest : Forest) (c : ℕ) (q : Key) where

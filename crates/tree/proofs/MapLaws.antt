@@ -1,7 +1,7 @@
 -- A tree is a finite map: its pairs ascend, get is lookup in them, and each operation does to them what the map's own
 -- operation does. Assumes nothing.
 use mathlib.Core.Path.{◌≡◌, refl, sym, ◌∙◌, fun_ext}
-use mathlib.Core.List.{List, [], ◌∷◌, ◌++◌}
+use mathlib.Core.List.{[], ◌∷◌, ◌++◌}
 use mathlib.Core.Option.{Option, none, some}
 use Prim.Native.Nat.{ℕ, ◌≤◌}
 use native.Mathlib.Omega.{arith}
@@ -12,7 +12,7 @@ use Rattle.tree.specs.Tree.{Tree, empty, WellFormed, own, pairs_f, pairs_t, keys
 use Rattle.tree.specs.Search.{get_t}
 use Rattle.tree.specs.Insert.{insert_t}
 use Rattle.tree.specs.Remove.{erase_t, remove_t, clear_t}
-use Rattle.tree.specs.Split.{Halves, absent, halves, split_t}
+use Rattle.tree.specs.Split.{absent, halves, split_t}
 use Rattle.tree.specs.Walk.{step_t}
 use Rattle.tree.proofs.Order.{none-some}
 use Rattle.tree.proofs.Find.{find_t}

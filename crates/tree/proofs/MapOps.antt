@@ -1,13 +1,13 @@
 -- The finite map: what a key finds, also after a put; a put leaves the keys ascending; an ascending list is determined by
 -- what its keys find. Assumes nothing.
 use mathlib.Core.Path.{◌≡◌, refl, sym, ap, ◌∙◌, fun_ext}
-use mathlib.Core.List.{List, [], ◌∷◌, ◌++◌}
-use mathlib.Core.Option.{Option, none, some}
+use mathlib.Core.List.{[], ◌∷◌, ◌++◌}
+use mathlib.Core.Option.{none, some}
 use Prim.Native.Nat.{Ordering}
 use Prim.Native.Nat.{ℕ}
 use Rattle.tree.specs.Key.{Key, order}
 use Rattle.tree.specs.Map.{Num, Pair, Pairs, AllKeys, Before, Ascending, lookup, put}
-use Rattle.tree.proofs.Order.{none-some, three, before_irrefl, before_trans, Line, below, level, over, line}
+use Rattle.tree.proofs.Order.{none-some, three, before_irrefl, before_trans, below, level, over, line}
 use Rattle.tree.proofs.Find.{upd, upd_at, upd_off, upd_same}
 
 -- All keys of a list

@@ -1,13 +1,13 @@
 -- What the walk gives next is the least key that it may give, and it ends only where there is none. Assumes nothing.
 use mathlib.Core.Path.{◌≡◌, refl, sym, ◌∙◌}
 use mathlib.Core.Bool.{Bool, true, false, false≢true}
-use mathlib.Core.List.{List, [], ◌∷◌, ◌++◌}
+use mathlib.Core.List.{[], ◌∷◌, ◌++◌}
 use mathlib.Core.Option.{Option, none, some}
 use Prim.Native.Nat.{ℕ}
 use Rattle.tree.specs.Key.{Key, strip}
 use Rattle.tree.specs.Map.{Pair, Pairs, Before, Ascending, lookup, past, next}
 use Rattle.tree.proofs.Order.{none-some}
-use Rattle.tree.proofs.Parts.{strip-append, Stripped, starts, not, stripped}
+use Rattle.tree.proofs.Parts.{strip-append, starts, not, stripped}
 use Rattle.tree.proofs.MapOps.{lookup-empty, lookup_head, lookup_tail, lookup-before, before_all}
 
 -- x is stored, starts with the prefix p and comes after the last key l, and no such key comes before it.

@@ -1,8 +1,8 @@
 -- Numbers and keys compared: each comparison with what it says. Assumes nothing.
-use mathlib.Core.Path.{◌≡◌, refl, sym, ap, ◌∙◌}
+use mathlib.Core.Path.{◌≡◌, refl, ap, ◌∙◌}
 use mathlib.Core.Logic.{◌⊎◌, inl, inr}
-use mathlib.Core.List.{List, [], ◌∷◌, ◌++◌}
-use mathlib.Core.Option.{Option, none, some}
+use mathlib.Core.List.{[], ◌∷◌, ◌++◌}
+use mathlib.Core.Option.{none, some}
 use Prim.Native.Nat.{ℕ, zero, suc, ◌<◌, compare, Ordering}
 use Prim.Native.Nat.compare
 use native.Mathlib.Omega.{arith}

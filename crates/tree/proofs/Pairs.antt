@@ -1,19 +1,19 @@
 -- The pairs of a tree: they are what its keys find, they ascend, their keys have at most 4,096 bytes, and they are as many
 -- as the tree has keys. Assumes nothing.
 use mathlib.Core.Path.{◌≡◌, refl, sym, ap, fun_ext}
-use mathlib.Core.List.{List, [], ◌∷◌, ◌++◌}
-use mathlib.Core.Option.{Option, none, some}
+use mathlib.Core.List.{[], ◌∷◌, ◌++◌}
+use mathlib.Core.Option.{none, some}
 use Prim.Native.Nat.{ℕ, suc, ◌+◌, ◌≤◌, ◌<◌}
 use native.Mathlib.Omega.{arith}
 use lib.ListN.{length, length-append}
 use Rattle.tree.specs.Key.{Key, Bytes, key_max, order, strip}
 use Rattle.tree.specs.Map.{Num, Pairs, AllKeys, Before, Ascending, lookup, size}
 use Rattle.tree.specs.Tree.{Forest, nil, node, Tree, Above, Wf, WellFormed, labelled, own, pairs_f, pairs_t, keys_w, keys_f, keys_t}
-use Rattle.tree.proofs.Order.{Cmp, less, even, more, cmp, three, before_head}
+use Rattle.tree.proofs.Order.{less, even, more, cmp, three, before_head}
 use Rattle.tree.proofs.Parts.{bytes-append}
 use Rattle.tree.proofs.Find.{under, look, find_f, find_t, at, at_cons, node_sem, above-none, look_here, look_nil, nowhere}
 use Rattle.tree.proofs.Shapes.{Rising, above_trans}
-use Rattle.tree.proofs.MapOps.{all_map, all_append, Twin, one, two, twin, lookup_cons, lookup_head, lookup_tail}
+use Rattle.tree.proofs.MapOps.{all_map, all_append, one, two, twin, lookup_cons, lookup_head, lookup_tail}
 use Rattle.tree.proofs.Sift.{lookup-labelled, labelled_ascend}
 
 -- What two lists in a row find

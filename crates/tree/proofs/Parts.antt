@@ -1,12 +1,11 @@
 -- How a key and a label part, and what is left of a key behind a prefix. Assumes nothing.
-use mathlib.Core.Path.{◌≡◌, refl, sym, ap, ◌∙◌}
-use mathlib.Core.List.{List, [], ◌∷◌, ◌++◌}
+use mathlib.Core.Path.{◌≡◌, refl, ap, ◌∙◌}
+use mathlib.Core.List.{[], ◌∷◌, ◌++◌}
 use mathlib.Core.Option.{Option, none, some}
-use Prim.Native.Nat.{ℕ, zero, suc, ◌+◌, ◌≤◌, ◌<◌, compare, Ordering}
+use Prim.Native.Nat.{ℕ}
 use native.Mathlib.Omega.{arith}
-use lib.ListN.{length, length-append}
 use Rattle.tree.specs.Key.{Key, Bytes, strip, Parting, same, key_ends, label_ends, fork, part, push}
-use Rattle.tree.proofs.Order.{Cmp, less, even, more, cmp, cmp_refl}
+use Rattle.tree.proofs.Order.{less, even, more, cmp, cmp_refl}
 
 -- What a parting says of the key and the label
 unfoldable pub Parts : Key → Key → Parting → Type 0

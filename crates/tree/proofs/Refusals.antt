@@ -17,7 +17,7 @@ use Rattle.tree.specs.Search.{get_t, looked_t}
 use Rattle.tree.specs.Split.{Halves, absent, halves, split_t}
 use Rattle.tree.specs.Told.{Told}
 use Rattle.tree.specs.Reader.{Rule, Tested, broken, sound, judge, rules}
-use Rattle.tree.specs.Reader.{Read, refused, gave, over_kids, read_node, over_rest, read_kids, last_rules, Verdict, refused_with, ok, read_t}
+use Rattle.tree.specs.Reader.{Read, refused, gave, over_kids, read_node, over_rest, read_kids, last_rules, refused_with, ok, read_t}
 use Rattle.tree.specs.Calls.{Outcome, refuses, leaves, SplitOutcome, refuses_both, leaves_both, fits, make_call, clear_call, insert_call, remove_told, remove_call, split_told, split_call, both, read_told, read_call}
 use Rattle.tree.proofs.Judge.{never, tells, judge-on, judge-off, decide, holds, fails}
 use Rattle.tree.proofs.ReaderSteps.{maybe, node-is, node-refused, kids-is, kids-refused}

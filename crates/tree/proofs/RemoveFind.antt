@@ -1,17 +1,15 @@
 -- What a key finds after a remove. Assumes nothing.
 use mathlib.Core.Path.{◌≡◌, refl, sym, ap, ◌∙◌, fun_ext}
 use mathlib.Core.Bool.{Bool, true, false}
-use mathlib.Core.List.{List, [], ◌∷◌, ◌++◌, append-nil}
+use mathlib.Core.List.{[], ◌∷◌, ◌++◌, append-nil}
 use mathlib.Core.Option.{Option, none, some}
-use Prim.Native.Nat.{ℕ, suc, ◌+◌, ◌≤◌, ◌<◌, compare}
+use Prim.Native.Nat.{ℕ, ◌<◌}
 use native.Mathlib.Omega.{arith}
-use lib.ListN.{length}
 use Rattle.tree.specs.Key.{Key, pick, strip}
 use Rattle.tree.specs.Map.{Num}
-use Rattle.tree.specs.Tree.{Forest, nil, node, Tree, Above, room}
-use Rattle.tree.specs.Search.{get_t}
+use Rattle.tree.specs.Tree.{Forest, nil, node, Tree, Above}
 use Rattle.tree.specs.Remove.{joins, settle, erase_f, erase_t, if_stored, remove_t}
-use Rattle.tree.proofs.Order.{Cmp, less, even, more, cmp, cmp_lt, cmp_gt, cmp_refl, three, none-some}
+use Rattle.tree.proofs.Order.{less, even, more, cmp, cmp_lt, cmp_gt, cmp_refl, three, none-some}
 use Rattle.tree.proofs.Parts.{strip-some}
 use Rattle.tree.proofs.Find.{under, look, find_f, find_t, at, upd, upd_f, node_sem, at-append, at_upd, look_node, look_here, look_there, look_nil, at_nowhere, nowhere, above-none, on-rest, on-node, node-same, upd_same}
 use Rattle.tree.proofs.Looks.{get_is_find}

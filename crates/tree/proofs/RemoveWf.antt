@@ -1,19 +1,19 @@
 -- Remove and clear keep a tree well-formed. Assumes nothing.
 use mathlib.Core.Path.{◌≡◌, refl, sym, subst}
 use mathlib.Core.Bool.{Bool, true, false}
-use mathlib.Core.List.{List, [], ◌∷◌, ◌++◌}
+use mathlib.Core.List.{[], ◌∷◌, ◌++◌}
 use mathlib.Core.Option.{Option, none, some}
-use Prim.Native.Nat.{ℕ, zero, suc, ◌+◌, ◌≤◌, ◌<◌}
+use Prim.Native.Nat.{ℕ, suc, ◌+◌, ◌≤◌, ◌<◌}
 use native.Mathlib.Omega.{arith}
 use lib.ListN.{length, length-append}
 use borrow.Author.Tests.{leb-true, leb-false}
 use Rattle.tree.specs.Key.{Key, pick, strip}
 use Rattle.tree.specs.Map.{Num}
-use Rattle.tree.specs.Tree.{Forest, nil, node, Tree, Above, Used, NodeRule, Wf, WellFormed, room, empty}
+use Rattle.tree.specs.Tree.{Forest, nil, node, Tree, Above, Used, Wf, WellFormed, room, empty}
 use Rattle.tree.specs.Remove.{joins, settle, erase_f, erase_t, remove_t, clear_t}
-use Rattle.tree.proofs.Order.{Cmp, less, even, more, cmp}
+use Rattle.tree.proofs.Order.{less, even, more, cmp}
 use Rattle.tree.proofs.Parts.{bytes-append}
-use Rattle.tree.proofs.RemoveFind.{erase_f_lt, erase_f_gt, erase_f-none, erase_f-here, erase_f-there, Removed, removed}
+use Rattle.tree.proofs.RemoveFind.{erase_f_lt, erase_f_gt, erase_f-none, erase_f-here, erase_f-there, removed}
 use Rattle.tree.proofs.Shapes.{Rising, wf-rising, wf-beside, above_trans}
 use Rattle.tree.proofs.InsertWf.{wf-at}
 

@@ -15,7 +15,7 @@ use Rattle.tree.specs.Insert.{insert_t}
 use Rattle.tree.specs.Remove.{remove_t}
 use Rattle.tree.specs.Image.{numbers_w}
 use Rattle.tree.specs.Told.{Told, done, refusal, refusal_at}
-use Rattle.tree.specs.Calls.{Outcome, outcome_told, fits, number_told, get_call, longest_told, longest_call}
+use Rattle.tree.specs.Calls.{outcome_told, fits, number_told, get_call, longest_told, longest_call}
 use Rattle.tree.specs.Calls.{shared_call, insert_call, remove_told, remove_call}
 
 pub data LookedLast (n : ℕ) : Told → Type 0 where

@@ -1,13 +1,11 @@
 -- Two parts of well-formedness that most laws ask for by themselves: siblings ascend; every node leads to a number. And a
 -- node that gets other siblings. Assumes nothing.
-use mathlib.Core.List.{List}
-use mathlib.Core.Option.{Option, none, some}
 use Prim.Native.Nat.{ℕ, suc, ◌+◌, ◌<◌}
 use native.Mathlib.Omega.{arith}
 use lib.ListN.{length}
 use Rattle.tree.specs.Key.{Key}
 use Rattle.tree.specs.Map.{Num}
-use Rattle.tree.specs.Tree.{Forest, nil, node, Tree, Above, Used, Wf, WellFormed}
+use Rattle.tree.specs.Tree.{Forest, nil, node, Above, Used, Wf}
 
 -- Siblings ascend, at every depth.
 abbrev pub Rising : Forest → Type 0

@@ -1,16 +1,16 @@
 -- Labelling, erasing and both halves of a split sift a list: what a key finds afterwards, and that the keys still ascend.
 -- Assumes nothing.
 use mathlib.Core.Path.{◌≡◌, refl, sym, ◌∙◌, fun_ext}
-use mathlib.Core.List.{List, [], ◌∷◌, ◌++◌}
+use mathlib.Core.List.{[], ◌∷◌, ◌++◌}
 use mathlib.Core.Option.{Option, none, some}
 use Rattle.tree.specs.Key.{Key, order, strip}
 use Rattle.tree.specs.Map.{Pair, Pairs, AllKeys, Before, Ascending, lookup, erase, starting_with, not_starting_with}
 use Rattle.tree.specs.Tree.{labelled}
-use Rattle.tree.proofs.Order.{none-some, three, before-prefix, before_unprefix, Line, below, level, over, line}
-use Rattle.tree.proofs.Parts.{strip-some, strip-append, Stripped, starts, not, stripped}
+use Rattle.tree.proofs.Order.{none-some, three, before-prefix, before_unprefix, below, level, over, line}
+use Rattle.tree.proofs.Parts.{strip-some, strip-append, starts, not, stripped}
 use Rattle.tree.proofs.Find.{under, at, upd, upd_at, upd_off}
 use Rattle.tree.proofs.SplitFind.{clip, wipe}
-use Rattle.tree.proofs.MapOps.{Twin, one, two, twin, before_differs, lookup-empty, lookup_head, lookup_tail}
+use Rattle.tree.proofs.MapOps.{one, two, twin, before_differs, lookup-empty, lookup_head, lookup_tail}
 
 -- What becomes of a pair: f says under which key it goes on, if it does.
 data Sifted (op : Pairs → Pairs) (f : Key → Option Key) (x : Pair) (m : Pairs) : Type 0 where

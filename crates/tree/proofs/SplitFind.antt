@@ -1,16 +1,16 @@
 -- Split by a prefix: what a key finds in either half. Assumes nothing.
 use mathlib.Core.Path.{◌≡◌, refl, sym, ap, ◌∙◌, fun_ext}
-use mathlib.Core.List.{List, [], ◌∷◌, ◌++◌, append-nil, append_assoc}
+use mathlib.Core.List.{[], ◌∷◌, ◌++◌, append_assoc}
 use mathlib.Core.Option.{Option, none, some}
-use Prim.Native.Nat.{ℕ, suc, ◌+◌, ◌≤◌, ◌<◌, compare}
+use Prim.Native.Nat.{ℕ, ◌<◌, compare}
 use native.Mathlib.Omega.{arith}
 use Rattle.tree.specs.Key.{Key, strip, Parting, same, key_ends, label_ends, fork, part}
 use Rattle.tree.specs.Map.{Num}
-use Rattle.tree.specs.Tree.{Forest, nil, node, Tree, Above, Used, empty}
+use Rattle.tree.specs.Tree.{Forest, nil, node, Tree, Above, empty}
 use Rattle.tree.specs.Remove.{settle}
-use Rattle.tree.specs.Split.{detach_f, leave_f, Halves, absent, halves, with, split_t}
-use Rattle.tree.proofs.Order.{Cmp, less, even, more, cmp, cmp_lt, cmp_gt, cmp_refl, three, none-some}
-use Rattle.tree.proofs.Parts.{Parts, parts, strip-append}
+use Rattle.tree.specs.Split.{detach_f, leave_f, absent, halves, with, split_t}
+use Rattle.tree.proofs.Order.{less, even, more, cmp, cmp_lt, cmp_gt, cmp_refl, three}
+use Rattle.tree.proofs.Parts.{Parts, parts}
 use Rattle.tree.proofs.Find.{under, look, find_f, find_t, at, at_cons, at-append, at_skip, find_f_lt, find_f_eq, find_f_gt, above-none, at₂, look_node, node_sem, nowhere}
 use Rattle.tree.proofs.RemoveFind.{settle_sem}
 use Rattle.tree.proofs.Shapes.{Rising, Bearing}

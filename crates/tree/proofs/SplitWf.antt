@@ -1,20 +1,19 @@
 -- Both halves of a split are well-formed. Assumes nothing.
 use mathlib.Core.Path.{◌≡◌, refl, sym, subst}
-use mathlib.Core.List.{List, [], ◌∷◌, ◌++◌}
-use mathlib.Core.Option.{Option, none, some}
-use Prim.Native.Nat.{ℕ, zero, suc, ◌+◌, ◌≤◌, ◌<◌}
+use mathlib.Core.List.{[], ◌∷◌, ◌++◌}
+use mathlib.Core.Option.{some}
+use Prim.Native.Nat.{ℕ, suc, ◌+◌, ◌≤◌}
 use native.Mathlib.Omega.{arith}
 use lib.ListN.{length}
 use Rattle.tree.specs.Key.{Key, Parting, same, key_ends, label_ends, fork, part}
-use Rattle.tree.specs.Tree.{Forest, nil, node, Tree, Above, NodeRule, Wf, WellFormed, empty}
-use Rattle.tree.specs.Remove.{settle}
-use Rattle.tree.specs.Split.{detach_f, leave_f, Halves, absent, halves, split_t}
-use Rattle.tree.proofs.Order.{Cmp, less, even, more, cmp}
+use Rattle.tree.specs.Tree.{Forest, nil, node, Tree, Above, Wf, WellFormed, empty}
+use Rattle.tree.specs.Split.{detach_f, leave_f, halves, split_t}
+use Rattle.tree.proofs.Order.{less, even, more, cmp}
 use Rattle.tree.proofs.Parts.{Parts, parts}
 use Rattle.tree.proofs.Shapes.{Rising, wf-rising, wf-beside, above_trans}
 use Rattle.tree.proofs.InsertWf.{lower}
 use Rattle.tree.proofs.RemoveWf.{settle-above, settle-wf, empty-wf}
-use Rattle.tree.proofs.SplitFind.{AllO, Halved, halved, detach_f_lt, detach_f_gt, detach_f-same, detach_f-key_ends, detach_f-label_ends, detach_f-fork, leave_f_lt, leave_f_gt, leave_f-same, leave_f-key_ends, leave_f-label_ends, leave_f-fork}
+use Rattle.tree.proofs.SplitFind.{AllO, halved, detach_f_lt, detach_f_gt, detach_f-same, detach_f-key_ends, detach_f-label_ends, detach_f-fork, leave_f_lt, leave_f_gt, leave_f-same, leave_f-key_ends, leave_f-label_ends, leave_f-fork}
 
 wf-shallow : (f : Forest) (s t : ℕ) → t ≤ s → Wf s f → Wf t f
 wf-shallow nil s t i h = tt

@@ -2,8 +2,7 @@
 -- children, and each child is a node at the next level with its own children behind it. Numbers follow in a list of
 -- their own, in the same order.
 use Rattle.std.specs.Prelude.{List, [], ◌∷◌, ◌++◌, ℕ, suc, ◌+◌, ◌/◌, ◌%◌, max, length}
-use Rattle.std.proofs.Math.Option.{Option, none, some}
-use Rattle.tree.specs.Key.{Key}
+use Rattle.std.proofs.Math.Option.{none, some}
 use Rattle.tree.specs.Map.{Num}
 use Rattle.tree.specs.Tree.{Forest, nil, node, Tree}
 

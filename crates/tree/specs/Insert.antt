@@ -1,8 +1,8 @@
 -- Insert: cut and chain. It never merges.
-use Rattle.std.specs.Prelude.{List, [], ◌∷◌, ◌++◌, length, take, drop}
-use Rattle.std.proofs.Math.Option.{Option, none, some}
+use Rattle.std.specs.Prelude.{[], ◌∷◌, length, take, drop}
+use Rattle.std.proofs.Math.Option.{none, some}
 use Prim.Native.Nat.{ℕ, zero, suc, compare, Ordering}
-use Rattle.tree.specs.Key.{Key, Parting, same, key_ends, label_ends, fork, part}
+use Rattle.tree.specs.Key.{Key, same, key_ends, label_ends, fork, part}
 use Rattle.tree.specs.Map.{Num}
 use Rattle.tree.specs.Tree.{Forest, nil, node, Tree, room}
 

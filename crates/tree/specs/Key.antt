@@ -1,7 +1,7 @@
 -- Keys: byte lists, their order, what two of them share.
 use Rattle.std.specs.Prelude.{List, [], ◌∷◌, Bool, true, false}
 use Rattle.std.proofs.Math.Option.{Option, none, some}
-use Prim.Native.Nat.{ℕ, zero, suc, ◌<◌, compare, Ordering}
+use Prim.Native.Nat.{ℕ, suc, ◌<◌, compare, Ordering}
 
 -- A key is a list of bytes, each a number below 256.
 abbrev pub Key : Type 0

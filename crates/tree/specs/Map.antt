@@ -1,5 +1,5 @@
 -- The finite map from keys to numbers: the list of its pairs, ascending by key. Nothing here knows of a tree.
-use Rattle.std.specs.Prelude.{◌≡◌, List, [], ◌∷◌, ◌++◌, Bool, true, false, length}
+use Rattle.std.specs.Prelude.{◌≡◌, List, [], ◌∷◌, Bool, true, false, length}
 use Rattle.std.proofs.Math.Option.{Option, none, some}
 use Prim.Native.Nat.{ℕ, max, compare, Ordering}
 use Rattle.tree.specs.Key.{Key, order, strip, common}

@@ -1,7 +1,7 @@
 -- The strict reader: the tests of one record, a node with all below it, a list of siblings, and the verdict on an image.
 -- s is the whole image, `at` an offset into it, ns the numbers not yet read, path the length of the labels above.
-use Rattle.std.specs.Prelude.{List, [], ◌∷◌, ◌++◌, Bool, true, false, ℕ, zero, suc, ◌+◌, ◌*◌, ◌-◌, ◌/◌, ◌%◌, length, get_or, take, drop, leb, eqb}
-use Rattle.std.proofs.Math.Option.{Option, none, some}
+use Rattle.std.specs.Prelude.{List, [], ◌∷◌, ◌++◌, true, false, ℕ, zero, suc, ◌+◌, ◌*◌, ◌-◌, ◌/◌, ◌%◌, length, get_or, take, drop, leb, eqb}
+use Rattle.std.proofs.Math.Option.{none, some}
 use Rattle.tree.specs.Key.{key_max}
 use Rattle.tree.specs.Map.{Num}
 use Rattle.tree.specs.Tree.{Forest, nil, node, Tree, nodes_t}

@@ -1,5 +1,5 @@
 -- Remove, clear: drop and merge on the way back up.
-use Rattle.std.specs.Prelude.{List, [], ◌∷◌, ◌++◌, Bool, length, leb}
+use Rattle.std.specs.Prelude.{[], ◌∷◌, ◌++◌, Bool, length, leb}
 use Rattle.std.proofs.Math.Option.{Option, none, some}
 use Prim.Native.Nat.{ℕ, suc, ◌+◌, compare, Ordering}
 use Rattle.tree.specs.Key.{Key, pick, strip}

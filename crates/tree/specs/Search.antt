@@ -1,9 +1,9 @@
 -- Searching. Get, longest stored prefix and longest shared length search alike: each goes by the nodes that one search
 -- looks at.
-use Rattle.std.specs.Prelude.{List, [], ◌∷◌, Bool, true, false, length, eqb}
+use Rattle.std.specs.Prelude.{List, [], ◌∷◌, true, false, length, eqb}
 use Rattle.std.proofs.Math.Option.{Option, none, some}
 use Prim.Native.Nat.{ℕ, suc, ◌+◌, compare, Ordering}
-use Rattle.tree.specs.Key.{Key, Parting, same, key_ends, label_ends, fork, part}
+use Rattle.tree.specs.Key.{Key, same, key_ends, label_ends, fork, part}
 use Rattle.tree.specs.Map.{Num}
 use Rattle.tree.specs.Tree.{Forest, nil, node, Tree}
 

@@ -1,8 +1,8 @@
 -- Split by a prefix: the tree that is detached, and the tree that is left.
-use Rattle.std.specs.Prelude.{List, [], ◌∷◌}
+use Rattle.std.specs.Prelude.{[], ◌∷◌}
 use Rattle.std.proofs.Math.Option.{Option, none, some}
 use Prim.Native.Nat.{ℕ, compare, Ordering}
-use Rattle.tree.specs.Key.{Key, Parting, same, key_ends, label_ends, fork, part}
+use Rattle.tree.specs.Key.{Key, same, key_ends, label_ends, fork, part}
 use Rattle.tree.specs.Tree.{Forest, nil, node, Tree, empty}
 use Rattle.tree.specs.Remove.{settle}
 

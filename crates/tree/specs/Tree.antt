@@ -1,6 +1,6 @@
 -- The tree: labelled nodes, what is well-formed, the pairs that it holds, how many nodes and keys it has.
-use Rattle.std.specs.Prelude.{List, [], ◌∷◌, ◌++◌, ℕ, zero, suc, ◌+◌, ◌≤◌, ◌<◌, length}
-use Rattle.std.proofs.Math.Option.{Option, none, some}
+use Rattle.std.specs.Prelude.{[], ◌∷◌, ◌++◌, ℕ, suc, ◌+◌, ◌≤◌, ◌<◌, length}
+use Rattle.std.proofs.Math.Option.{none, some}
 use Rattle.tree.specs.Key.{Key, Bytes, key_max}
 use Rattle.tree.specs.Map.{Num, Pairs}
 

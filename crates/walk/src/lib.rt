@@ -69,10 +69,9 @@ fn is_due(key: &[u8], prefix: &[u8], last: &[u8], begun: bool) -> bool
 // Lays the label of a slot behind the bytes above it in the path, and gives the length of the slot's key.
 fn lay(labels: &[u8], words: &[u32], at: Slot, path: &mut [u8]) -> usize
     requires { LayRoom words.now labels.now path.old at.0 }
-    ensures {
-      let ws = words.now in
-      let bs = labels.now in
-      Laid ws bs path.old at.0 path.new result }
+    ensures { let ws = words.now in
+        let bs = labels.now in
+        Laid ws bs path.old at.0 path.new result }
 {
     let from = slots::start_at(words, at);
     let to = from + slots::len_at(words, at);
@@ -102,10 +101,9 @@ fn seek(
     path: &mut [u8],
 ) -> Found
     requires { PoolRule words.now labels.now × (length path.old ≡ key_max) }
-    ensures {
-      let ws = words.now in
-      let bs = labels.now in
-      Sought ws bs prefix.now (last_if begun last.now) result path.new }
+    ensures { let ws = words.now in
+        let bs = labels.now in
+        Sought ws bs prefix.now (last_if begun last.now) result path.new }
 {
     let n = slots::nodes_in(words);
     let mut i: usize = 0;

@@ -1,5 +1,5 @@
 -- What the writer's parts write and count, by the words and label bytes of a pool.
-use Rattle.std.specs.Prelude.{List, [], ◌∷◌, ◌++◌, Bool, true, false, ℕ, zero, suc, ◌+◌, ◌*◌, ◌/◌, ◌%◌, ◌≤◌, ◌<◌, length, ltb, eqb}
+use Rattle.std.specs.Prelude.{List, [], ◌∷◌, ◌++◌, Bool, true, false, ℕ, zero, suc, ◌+◌, ◌/◌, ◌%◌, ◌≤◌, ◌<◌, length, ltb, eqb}
 use Rattle.tree.specs.Image.{numbers_w}
 use Rattle.flags.specs.Flags.{flag_byte}
 use Rattle.slots.specs.Layout.{words_for, start_of, len_of, has_of, span_of, label_of, num_at}

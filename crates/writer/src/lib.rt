@@ -39,10 +39,9 @@ fn write_record(
     at: usize,
 ) -> usize
     requires { RecordRoom words.now labels.now slot.0 level.0 out.old at }
-    ensures {
-      let ws = words.now in
-      let bs = labels.now in
-      Put (record_at ws bs slot.0 level.0 sibling) out.old at out.new result }
+    ensures { let ws = words.now in
+        let bs = labels.now in
+        Put (record_at ws bs slot.0 level.0 sibling) out.old at out.new result }
 {
     let n = slots::len_at(words, slot);
     let number = 0 < slots::has_at(words, slot);
@@ -83,9 +82,8 @@ fn wide(x: u16) -> usize
 // Counterpart: the loop of `Node::serialize` over its stack.
 fn write_slots(labels: &[u8], words: &[u32], n: usize, out: &mut [u8], at: usize) -> usize
     requires { Room words.now labels.now 1 n 1 out.old at }
-    ensures {
-      let ws = words.now in
-      RunPut ws labels.now 1 n 1 out.old at out.new result }
+    ensures { let ws = words.now in
+        RunPut ws labels.now 1 n 1 out.old at out.new result }
 {
     let mut levels = [1u16; 4097];
     let mut i: usize = 1;
@@ -115,12 +113,10 @@ fn write_tree(labels: &[u8], words: &[u32], out: &mut [u8])
 // Writes the number of one slot, if it has one, and gives the place behind it. Counterpart: what `Node::serialize` pushes
 // to its values for one node.
 fn write_number(words: &[u32], slot: Slot, out: &mut [u64], at: usize) -> usize
-    requires {
-      let ws = words.now in
-      WordsIn ws slot.0 × (at + length (numbers_w (num_at ws slot.0) []) ≤ length out.old) }
-    ensures {
-      let ws = words.now in
-      Put (numbers_w (num_at ws slot.0) []) out.old at out.new result }
+    requires { let ws = words.now in
+        WordsIn ws slot.0 × (at + length (numbers_w (num_at ws slot.0) []) ≤ length out.old) }
+    ensures { let ws = words.now in
+        Put (numbers_w (num_at ws slot.0) []) out.old at out.new result }
 {
     if slots::has_at(words, slot) == 0 {
         return at;
@@ -145,9 +141,8 @@ fn write_numbers(words: &[u32], n: usize, out: &mut [u64])
 // Writes the image of the pool's tree: each output has its part at the front, and with any refusal both stay as they
 // were. Both lengths are known and tested before anything is written. Counterpart: `Node::serialize`.
 pub fn write(labels: &[u8], words: &[u32], tree: &mut [u8], numbers: &mut [u64]) -> Written
-    ensures {
-      let was = lent labels.now words.now in
-      WriteAllows result was tree.old numbers.old tree.new numbers.new }
+    ensures { let was = lent labels.now words.now in
+        WriteAllows result was tree.old numbers.old tree.new numbers.new }
 {
     if !pool::is_pool(labels, words) {
         return Written::NotPool;

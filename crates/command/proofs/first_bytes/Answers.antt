@@ -1,5 +1,5 @@
 -- `command::first_bytes` meets its contract. Assumes nothing.
-use mathlib.Core.Path.{refl, sym}
+use mathlib.Core.Path.{sym}
 use lib.Seq.{length-take-le, take_all}
 use borrow.Author.Rules.{rules}
 use Rattle.command.proofs.first_bytes.Goals as goal

@@ -1,7 +1,5 @@
 -- `command::is_comment` meets its contract. Assumes nothing.
-use mathlib.Core.Path.{refl}
 use Rattle.command.proofs.Names.{no-first}
-use borrow.Author.Rules.{rules}
 use Rattle.command.proofs.is_comment.Goals as goal
 
 pub returns-then-line-eq0 : goal.returns-then-line-eq0

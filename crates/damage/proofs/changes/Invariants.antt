@@ -1,7 +1,6 @@
 -- `damage::changes` is safe and ends. Assumes nothing.
 use mathlib.Core.Path.{◌≡◌}
 use Prim.Native.Nat.{◌≤◌, ◌-◌}
-use native.Mathlib.Omega.{arith}
 use lib.ListN.{length}
 use Rattle.damage.proofs.changes.Given as goal
 

@@ -1,6 +1,5 @@
 -- `damage::cuts` is safe and ends. Assumes nothing.
 use Prim.Native.Nat.{◌≤◌, ◌-◌}
-use native.Mathlib.Omega.{arith}
 use lib.ListN.{length}
 use Rattle.damage.proofs.cuts.Given as goal
 

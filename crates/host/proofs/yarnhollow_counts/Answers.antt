@@ -1,7 +1,6 @@
 -- `host::yarnhollow_counts` meets its contract. Assumes nothing.
 use Rattle.tree.specs.Told.{counted_told}
 use Rattle.host.proofs.Handed.{returns_two, returned}
-use borrow.Author.Rules.{rules}
 use Rattle.host.proofs.yarnhollow_counts.Goals as goal
 
 pub returns : goal.returns

@@ -1,7 +1,6 @@
 -- `host::yarnhollow_insert` meets its contract. Assumes nothing.
 use Rattle.tree.specs.Told.{inserted_told}
 use Rattle.host.proofs.Handed.{flagged_length, held_three, changes}
-use borrow.Author.Rules.{rules}
 use Rattle.host.proofs.yarnhollow_insert.Goals as goal
 
 pub returns : goal.returns

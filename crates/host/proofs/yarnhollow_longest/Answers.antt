@@ -1,7 +1,6 @@
 -- `host::yarnhollow_longest` meets its contract. Assumes nothing.
 use Rattle.tree.specs.Told.{prefixed_told}
 use Rattle.host.proofs.Handed.{last-length, held_three, returned}
-use borrow.Author.Rules.{rules}
 use Rattle.host.proofs.yarnhollow_longest.Goals as goal
 
 pub returns : goal.returns

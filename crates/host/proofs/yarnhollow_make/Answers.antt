@@ -1,7 +1,6 @@
 -- `host::yarnhollow_make` meets its contract. Assumes nothing.
 use Rattle.tree.specs.Told.{emptied_told}
 use Rattle.host.proofs.Handed.{returns-none, changes}
-use borrow.Author.Rules.{rules}
 use Rattle.host.proofs.yarnhollow_make.Goals as goal
 
 pub returns : goal.returns

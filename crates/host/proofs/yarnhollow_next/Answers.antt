@@ -2,7 +2,6 @@
 use Rattle.tree.specs.Told.{stepped_told}
 use Rattle.host.proofs.Handed.{returns_two}
 use Rattle.host.proofs.Resuming.{next-given}
-use borrow.Author.Rules.{rules}
 use Rattle.host.proofs.yarnhollow_next.Goals as goal
 
 pub returns : goal.returns

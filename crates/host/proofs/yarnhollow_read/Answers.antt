@@ -1,7 +1,6 @@
 -- `host::yarnhollow_read` meets its contract. Assumes nothing.
 use Rattle.tree.specs.Told.{loaded_told}
 use Rattle.host.proofs.Handed.{returns_one, changes}
-use borrow.Author.Rules.{rules}
 use Rattle.host.proofs.yarnhollow_read.Goals as goal
 
 pub returns : goal.returns

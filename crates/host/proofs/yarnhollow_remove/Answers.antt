@@ -1,7 +1,6 @@
 -- `host::yarnhollow_remove` meets its contract. Assumes nothing.
 use Rattle.tree.specs.Told.{got_told}
 use Rattle.host.proofs.Handed.{last-length, held_two, changes}
-use borrow.Author.Rules.{rules}
 use Rattle.host.proofs.yarnhollow_remove.Goals as goal
 
 pub returns : goal.returns

@@ -1,7 +1,6 @@
 -- `host::yarnhollow_shared` meets its contract. Assumes nothing.
 use Rattle.tree.specs.Told.{sharing_told}
 use Rattle.host.proofs.Handed.{last-length, held_two, returned}
-use borrow.Author.Rules.{rules}
 use Rattle.host.proofs.yarnhollow_shared.Goals as goal
 
 pub returns : goal.returns

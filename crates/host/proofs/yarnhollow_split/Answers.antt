@@ -1,7 +1,6 @@
 -- `host::yarnhollow_split` meets its contract. Assumes nothing.
 use Rattle.tree.specs.Told.{divided_told}
 use Rattle.host.proofs.Handed.{returns-none, splits}
-use borrow.Author.Rules.{rules}
 use Rattle.host.proofs.yarnhollow_split.Goals as goal
 
 pub returns : goal.returns

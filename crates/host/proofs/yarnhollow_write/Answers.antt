@@ -1,7 +1,6 @@
 -- `host::yarnhollow_write` meets its contract. Assumes nothing.
 use Rattle.tree.specs.Told.{written_told}
 use Rattle.host.proofs.Handed.{returns_two, written}
-use borrow.Author.Rules.{rules}
 use Rattle.host.proofs.yarnhollow_write.Goals as goal
 
 pub returns : goal.returns

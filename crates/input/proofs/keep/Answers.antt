@@ -3,7 +3,6 @@ use Prim.Native.Nat.{◌+◌}
 use native.Mathlib.Omega.{arith}
 use lib.ListN.{length}
 use mathlib.Core.Path.{refl}
-use borrow.Author.Rules.{rules}
 use borrow.Rule.Slice.PartMut.{Post-is}
 use Rattle.input.proofs.keep.Goals as goal
 

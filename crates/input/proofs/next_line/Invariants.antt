@@ -1,5 +1,4 @@
 -- `input::next_line` meets its contract: what is still to be taken of the chunk lies within it. Assumes nothing.
-use native.Mathlib.Omega.{arith}
 use Rattle.input.specs.Lines.{Unread}
 use Rattle.input.proofs.next_line.Given as goal
 

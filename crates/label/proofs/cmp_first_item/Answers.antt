@@ -1,7 +1,6 @@
 -- `label::cmp_first_item` meets its contract. Assumes nothing.
 use mathlib.Core.Path.{sym}
 use native.Mathlib.Omega.{arith}
-use Prim.Native.Nat.{compare}
 use Rattle.tree.proofs.Order.{cmp_lt, cmp_gt, cmp_eq}
 use Rattle.label.proofs.cmp_first_item.Goals as goal
 

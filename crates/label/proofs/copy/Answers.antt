@@ -1,8 +1,6 @@
 -- `label::copy` meets its contract: the places passed are the source's. Assumes nothing.
-use Prim.Native.Nat.{◌≤◌, ◌-◌}
 use native.Mathlib.Omega.{arith}
-use lib.ListN.{length}
-use Rattle.label.proofs.Moves.{Filled, fill_none, fill_step, fill_done}
+use Rattle.label.proofs.Moves.{fill_none, fill_step, fill_done}
 use Rattle.label.proofs.copy.Goals as goal
 
 pub loop-i-preserved : goal.loop-i-preserved

@@ -1,8 +1,7 @@
 -- `label::copy` meets its contract: the places passed are the source's. Assumes nothing.
 use Prim.Native.Nat.{◌≤◌, ◌-◌}
-use native.Mathlib.Omega.{arith}
 use lib.ListN.{length}
-use Rattle.label.proofs.Moves.{Filled, fill_none, fill_step, fill_done}
+use Rattle.label.proofs.Moves.{Filled}
 use Rattle.label.proofs.copy.Given as goal
 
 abbrev pub invariant-loop-i : goal.invariant-loop-i

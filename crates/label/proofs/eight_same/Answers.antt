@@ -1,7 +1,6 @@
 -- `label::eight_same` meets its contract: two numbers of eight bytes are the same where the bytes are. Assumes nothing.
 use Prim.Native.Nat.{ℕ, ◌<◌}
 use native.Mathlib.Omega.{arith}
-use borrow.Author.Rules.{rules}
 use lib.ListN.{get_or}
 use Rattle.label.proofs.Eights.{eight_same}
 use Rattle.label.proofs.eight_same.Goals as goal

@@ -1,7 +1,6 @@
 -- `label::move_bytes_down` meets its contract, turn by turn. Assumes nothing.
-use Prim.Native.Nat.{◌-◌}
 use native.Mathlib.Omega.{arith}
-use Rattle.label.proofs.Moves.{Sinking, down-none, down_step, down-done}
+use Rattle.label.proofs.Moves.{down-none, down_step, down-done}
 use Rattle.label.proofs.move_bytes_down.Goals as goal
 
 pub loop-i-init : goal.loop-i-init

@@ -1,6 +1,6 @@
 -- `label::move_bytes_up` meets its contract, turn by turn. Assumes nothing.
 use native.Mathlib.Omega.{arith}
-use Rattle.label.proofs.Moves.{Rising, up_none, up_step, up_done}
+use Rattle.label.proofs.Moves.{up_none, up_step, up_done}
 use Rattle.label.proofs.move_bytes_up.Goals as goal
 
 pub loop-i-init : goal.loop-i-init

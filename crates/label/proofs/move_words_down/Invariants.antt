@@ -1,7 +1,6 @@
 -- `label::move_words_down` meets its contract, turn by turn. Assumes nothing.
 use Prim.Native.Nat.{◌-◌}
-use native.Mathlib.Omega.{arith}
-use Rattle.label.proofs.Moves.{Sinking, down-none, down_step, down-done}
+use Rattle.label.proofs.Moves.{Sinking}
 use Rattle.label.proofs.move_words_down.Given as goal
 
 abbrev pub invariant-loop-i : goal.invariant-loop-i

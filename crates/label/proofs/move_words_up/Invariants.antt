@@ -1,6 +1,5 @@
 -- `label::move_words_up` meets its contract, turn by turn. Assumes nothing.
-use native.Mathlib.Omega.{arith}
-use Rattle.label.proofs.Moves.{Rising, up_none, up_step, up_done}
+use Rattle.label.proofs.Moves.{Rising}
 use Rattle.label.proofs.move_words_up.Given as goal
 
 abbrev pub invariant-loop-i : goal.invariant-loop-i

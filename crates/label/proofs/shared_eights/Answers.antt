@@ -1,10 +1,6 @@
 -- `label::shared_eights` meets its contract: each step passes eight shared bytes, and fewer are left. Assumes nothing.
-use mathlib.Core.Path.{◌≡◌, sym, ◌∙◌}
-use Prim.Native.Nat.{◌≤◌, ◌-◌, ◌%◌}
+use mathlib.Core.Path.{sym, ◌∙◌}
 use native.Mathlib.Omega.{arith}
-use borrow.Author.Rules.{rules}
-use borrow.Author.Tests.{not-true, not-false}
-use Rattle.tree.specs.Key.{common}
 use Rattle.label.proofs.Eights.{common-within, step_on, step_off}
 use Rattle.label.proofs.shared_eights.Goals as goal
 

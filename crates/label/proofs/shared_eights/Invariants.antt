@@ -1,11 +1,7 @@
 -- `label::shared_eights` meets its contract: each step passes eight shared bytes, and fewer are left. Assumes nothing.
-use mathlib.Core.Path.{◌≡◌, sym, ◌∙◌}
+use mathlib.Core.Path.{◌≡◌}
 use Prim.Native.Nat.{◌≤◌, ◌-◌, ◌%◌}
-use native.Mathlib.Omega.{arith}
-use borrow.Author.Rules.{rules}
-use borrow.Author.Tests.{not-true, not-false}
 use Rattle.tree.specs.Key.{common}
-use Rattle.label.proofs.Eights.{common-within, step_on, step_off}
 use Rattle.label.proofs.shared_eights.Given as goal
 
 abbrev pub invariant-loop-i : goal.invariant-loop-i

@@ -1,7 +1,6 @@
 -- `label::shared_fours` meets its contract: four more bytes are passed exactly where they are shared. Assumes nothing.
 use mathlib.Core.Path.{sym, ◌∙◌}
 use native.Mathlib.Omega.{arith}
-use borrow.Author.Rules.{rules}
 use Rattle.label.proofs.Eights.{common-within, step_on, step_off}
 use Rattle.label.proofs.shared_fours.Goals as goal
 

@@ -1,8 +1,5 @@
 -- `label::shared_singly` meets its contract: every byte passed is shared. Assumes nothing.
-use Prim.Native.Nat.{◌≤◌, ◌-◌}
 use native.Mathlib.Omega.{arith}
-use borrow.Author.Rules.{rules}
-use Rattle.tree.specs.Key.{common}
 use Rattle.label.proofs.Eights.{common-within, common-next, common-at}
 use Rattle.label.proofs.shared_singly.Goals as goal
 

@@ -1,9 +1,9 @@
 -- `line::digits` meets its contract: each turn reads one digit. Assumes nothing.
 use native.Mathlib.Omega.{arith}
 use mathlib.Core.Path.{refl}
-use Rattle.line.proofs.Turns.{Valuing, valuing_none, valuing_step, valuing_done, value-more, value_grows}
+use Rattle.line.proofs.Turns.{valuing_none, valuing_step, valuing_done, value-more, value_grows}
 use lib.ListN.{length}
-use Prim.Native.Nat.{◌-◌, ◌+◌}
+use Prim.Native.Nat.{◌+◌}
 use Rattle.line.proofs.digits.Goals as goal
 
 pub returns-then-d-gt9 : goal.returns-then-d-gt9

@@ -1,9 +1,7 @@
 -- `line::digits` meets its contract: each turn reads one digit. Assumes nothing.
-use native.Mathlib.Omega.{arith}
-use mathlib.Core.Path.{refl}
-use Rattle.line.proofs.Turns.{Valuing, valuing_none, valuing_step, valuing_done, value-more, value_grows}
+use Rattle.line.proofs.Turns.{Valuing}
 use lib.ListN.{length}
-use Prim.Native.Nat.{◌-◌, ◌+◌}
+use Prim.Native.Nat.{◌-◌}
 use Rattle.line.proofs.digits.Given as goal
 
 abbrev pub invariant-loop-i : goal.invariant-loop-i

@@ -1,8 +1,8 @@
 -- `line::hex` meets its contract: each turn reads two digits. Assumes nothing.
 use native.Mathlib.Omega.{arith}
 use mathlib.Core.Path.{refl}
-use Rattle.line.proofs.Turns.{Hexing, hexing_none, hexing_step, hexing_done}
-use Prim.Native.Nat.{◌*◌, ◌+◌, ◌-◌, ◌≤◌}
+use Rattle.line.proofs.Turns.{hexing_none, hexing_step, hexing_done}
+use Prim.Native.Nat.{◌*◌, ◌+◌}
 use Rattle.line.proofs.hex.Goals as goal
 
 pub returns-then-high-gt15 : goal.returns-then-high-gt15

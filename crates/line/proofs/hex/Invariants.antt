@@ -1,8 +1,6 @@
 -- `line::hex` meets its contract: each turn reads two digits. Assumes nothing.
-use native.Mathlib.Omega.{arith}
-use mathlib.Core.Path.{refl}
-use Rattle.line.proofs.Turns.{Hexing, hexing_none, hexing_step, hexing_done}
-use Prim.Native.Nat.{◌*◌, ◌+◌, ◌-◌, ◌≤◌}
+use Rattle.line.proofs.Turns.{Hexing}
+use Prim.Native.Nat.{◌-◌, ◌≤◌}
 use Rattle.line.proofs.hex.Given as goal
 
 abbrev pub invariant-loop-i : goal.invariant-loop-i

@@ -3,7 +3,6 @@ use native.Mathlib.Omega.{arith}
 use Rattle.line.proofs.Turns.{other, key_taken}
 use mathlib.Core.Logic.{inl}
 use mathlib.Core.Path.{refl}
-use borrow.Author.Rules.{rules}
 use Rattle.line.proofs.key.Goals as goal
 
 pub returns-then-same : goal.returns-then-same

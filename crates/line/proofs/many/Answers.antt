@@ -1,8 +1,7 @@
 -- `line::many` meets its contract: each turn takes one number. Assumes nothing.
-use Rattle.line.proofs.Lists.{Listing, listing_none, listing_bad, listing_last, listing_step, listing_full, comma, numbered}
+use Rattle.line.proofs.Lists.{listing_none, listing_bad, listing_last, listing_step, listing_full, comma, numbered}
 use native.Mathlib.Omega.{arith}
-use lib.ListN.{length, length-set}
-use Prim.Native.Nat.{◌-◌}
+use lib.ListN.{length-set}
 use Rattle.line.proofs.many.Goals as goal
 
 pub returns-in_default : goal.returns-in_default

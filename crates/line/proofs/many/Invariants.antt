@@ -1,7 +1,6 @@
 -- `line::many` meets its contract: each turn takes one number. Assumes nothing.
-use Rattle.line.proofs.Lists.{Listing, listing_none, listing_bad, listing_last, listing_step, listing_full, comma, numbered}
-use native.Mathlib.Omega.{arith}
-use lib.ListN.{length, length-set}
+use Rattle.line.proofs.Lists.{Listing}
+use lib.ListN.{length}
 use Prim.Native.Nat.{◌-◌}
 use Rattle.line.proofs.many.Given as goal
 

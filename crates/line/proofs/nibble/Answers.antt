@@ -1,7 +1,6 @@
 -- `line::nibble` meets its contract. Assumes nothing.
 use Rattle.line.specs.Spelling.{nibble}
 use borrow.Author.Tests.{lt-ltb, le-ltb}
-use borrow.Author.Rules.{rules}
 use Rattle.line.proofs.nibble.Goals as goal
 
 pub returns-then-b-lt48 : goal.returns-then-b-lt48

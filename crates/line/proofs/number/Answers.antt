@@ -1,7 +1,6 @@
 -- `line::number` meets its contract. Assumes nothing.
 use native.Mathlib.Omega.{arith}
 use Rattle.line.proofs.Turns.{number_taken}
-use borrow.Author.Rules.{rules}
 use Rattle.line.proofs.number.Goals as goal
 
 pub returns-then-s-eq1 : goal.returns-then-s-eq1

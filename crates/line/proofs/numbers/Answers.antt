@@ -3,7 +3,6 @@ use Rattle.line.proofs.Lists.{list_taken}
 use Rattle.line.proofs.Turns.{other}
 use mathlib.Core.Logic.{inl}
 use mathlib.Core.Path.{refl}
-use borrow.Author.Rules.{rules}
 use Rattle.line.proofs.numbers.Goals as goal
 
 pub returns-then-same : goal.returns-then-same

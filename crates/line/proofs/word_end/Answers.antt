@@ -1,5 +1,5 @@
 -- `line::word_end` meets its contract: the whole line is looked through. Assumes nothing.
-use Rattle.std.proofs.Common.{◌≡◌, ◌-◌, length, take, drop, arith, length-drop}
+use Rattle.std.proofs.Common.{◌≡◌, ◌-◌, length, take, drop, arith}
 use lib.Seq.{take_all}
 use Rattle.line.proofs.word_end.Goals as goal
 

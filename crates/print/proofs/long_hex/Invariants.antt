@@ -1,5 +1,4 @@
 -- `print::long_hex` is safe and ends. Assumes nothing.
-use native.Mathlib.Omega.{arith}
 use lib.ListN.{length}
 use Prim.Native.Nat.{◌-◌, ◌≤◌}
 use Rattle.print.proofs.long_hex.Given as goal

@@ -1,5 +1,4 @@
 -- `print::many` is safe and ends. Assumes nothing.
-use native.Mathlib.Omega.{arith}
 use lib.ListN.{length}
 use Prim.Native.Nat.{◌-◌, ◌≤◌}
 use Rattle.print.proofs.many.Given as goal

@@ -1,9 +1,7 @@
 -- `print::spell` meets its contract: each turn spells one byte more. Assumes nothing.
-use lib.ListN.{length, length-set}
+use lib.ListN.{length-set}
 use native.Mathlib.Omega.{arith}
 use Rattle.print.proofs.Turns.{spell_none, spell_step}
-use Rattle.print.specs.Hex.{Spelling}
-use Prim.Native.Nat.{◌-◌}
 use Rattle.print.proofs.spell.Goals as goal
 
 pub returns-then-out-n : goal.returns-then-out-n

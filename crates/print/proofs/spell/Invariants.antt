@@ -1,7 +1,5 @@
 -- `print::spell` meets its contract: each turn spells one byte more. Assumes nothing.
-use lib.ListN.{length, length-set}
-use native.Mathlib.Omega.{arith}
-use Rattle.print.proofs.Turns.{spell_none, spell_step}
+use lib.ListN.{length}
 use Rattle.print.specs.Hex.{Spelling}
 use Prim.Native.Nat.{◌-◌}
 use Rattle.print.proofs.spell.Given as goal

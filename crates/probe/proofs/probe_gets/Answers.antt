@@ -1,12 +1,7 @@
 -- `probe::probe_gets` meets its contract: each lookup gives the same number. Assumes nothing.
-use mathlib.Core.Path.{◌≡◌, refl}
-use Prim.Native.Nat.{◌≤◌, ◌-◌}
+use mathlib.Core.Path.{refl}
 use native.Mathlib.Omega.{arith}
-use borrow.Author.Rules.{rules}
-use borrow.Author.Tests.{not-true, not-false}
 use Rattle.tree.specs.Key.{key_max}
-use Rattle.tree.specs.Calls.{get_call}
-use Rattle.pool.specs.Pool.{pool_tree}
 use Rattle.search.proofs.Answers.{get_refused, get_long}
 use Rattle.probe.proofs.Said.{number_of}
 use Rattle.probe.proofs.probe_gets.Goals as goal

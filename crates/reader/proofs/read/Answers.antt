@@ -17,8 +17,8 @@ pub returns : goal.returns
 returns c =
     let slots = sym (rw c.in-Slots.is at c.slots_of.ensures) in
     elim c.match-verdict.branch [
-        in-Accepted w ↦ rw (w.labels-is, w.words-is, c.answer.ensures, w.in-Accepted.is) w.fill_tree.ensures
-        | in_default-verdict w ↦
-            rw (w.labels-is, w.words-is, c.answer.ensures, w.in_default-verdict.is)
-            (not_image _ _ _ _ _ slots _ (rw w.in_default-verdict.is at (c.check-verdict.ensures c.args.numbers.now refl)))
+      | in-Accepted w ↦ rw (w.labels-is, w.words-is, c.answer.ensures, w.in-Accepted.is) w.fill_tree.ensures
+      | in_default-verdict w ↦
+          rw (w.labels-is, w.words-is, c.answer.ensures, w.in_default-verdict.is)
+          (not_image _ _ _ _ _ slots _ (rw w.in_default-verdict.is at (c.check-verdict.ensures c.args.numbers.now refl)))
     ]

@@ -52,4 +52,4 @@ pub returns : goal.returns
 returns c =
     let at = goal.at.returns c in
     sym (passed _ (snoc (head_rules c.args.tree.now c.args.level.0 c.args.at) 9
-        (past-length at.Else-len-lt1 (past_level at.Else-wide-level (past_flags at.Else-not-flags_sound))) (omega arith)))
+    (past-length at.Else-len-lt1 (past_level at.Else-wide-level (past_flags at.Else-not-flags_sound))) (omega arith)))

@@ -61,4 +61,4 @@ pub returns : goal.returns
 returns c =
     let at = goal.at.returns c in
     sym (passed _ (snoc (table c.args.tree.now c.args.numbers) 13
-        (past-length at.Else-tree-gt0 (past_level at.Else-wide-ne0 (past_flags at.Else-not-flags_sound))) (omega arith)))
+    (past-length at.Else-tree-gt0 (past_level at.Else-wide-ne0 (past_flags at.Else-not-flags_sound))) (omega arith)))

@@ -1,5 +1,4 @@
 -- `rulebox::main` is safe and ends. Assumes nothing.
-use native.Mathlib.Omega.{arith}
 use Rattle.input.specs.Lines.{Unread}
 use Rattle.rulebox.proofs.main.Given as goal
 

@@ -1,5 +1,4 @@
 -- `rulebox::walk_all` is safe and ends. Assumes nothing.
-use native.Mathlib.Omega.{arith}
 use lib.ListN.{length}
 use mathlib.Core.Path.{◌≡◌}
 use Rattle.rulebox.proofs.walk_all.Given as goal

@@ -19,11 +19,11 @@ returns-then-is_due c =
 pub loop-i-preserved : goal.loop-i-preserved
 loop-i-preserved c =
     elim c.if-gives_key.branch [
-        then-gives_key+else-is_due w ↦
-            ahead-passed c.loop-i.invariant c.loop-i-test.true c.lay-len.ensures
-                (rw w.if-gives_key.true at c.gives_key.ensures) (sym w.if-is_due.false ∙ w.is_due.ensures)
-        | else-gives_key w ↦
-            ahead-plain c.loop-i.invariant c.loop-i-test.true c.lay-len.ensures (rw w.if-gives_key.false at c.gives_key.ensures)
+      | then-gives_key+else-is_due w ↦
+          ahead-passed c.loop-i.invariant c.loop-i-test.true c.lay-len.ensures
+          (rw w.if-gives_key.true at c.gives_key.ensures) (sym w.if-is_due.false ∙ w.is_due.ensures)
+      | else-gives_key w ↦
+          ahead-plain c.loop-i.invariant c.loop-i-test.true c.lay-len.ensures (rw w.if-gives_key.false at c.gives_key.ensures)
     ]
 
 pub returns : goal.returns

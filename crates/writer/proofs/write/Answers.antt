@@ -25,12 +25,12 @@ returns-then-not-is_pool c = write_refused _ _ _ _ (c.is_pool.ensures.no (c.if-n
 pub returns-then-tree-bytes : goal.returns-then-tree-bytes
 returns-then-tree-bytes c =
     write_short_tree (known_at (goal.at.returns-then-tree-bytes c).After-nodes_in-n) _ _ c.image_length-bytes.ensures c.keys_in-keys.ensures
-        c.if-tree-bytes.true
+    c.if-tree-bytes.true
 
 pub returns-then-numbers-keys : goal.returns-then-numbers-keys
 returns-then-numbers-keys c =
     write_short_numbers (known_at (goal.at.returns-then-numbers-keys c).After-nodes_in-n) _ _ c.image_length-bytes.ensures c.keys_in-keys.ensures
-        c.if-tree-bytes.false c.if-numbers-keys.true
+    c.if-tree-bytes.false c.if-numbers-keys.true
 
 pub write_tree-requires : goal.write_tree-requires
 write_tree-requires c =
@@ -43,4 +43,4 @@ write_numbers-requires c =
 pub returns : goal.returns
 returns c =
     write_done (known_at (goal.at.returns c).After-nodes_in-n) _ _ c.image_length-bytes.ensures c.keys_in-keys.ensures
-        c.if-tree-bytes.false c.if-numbers-keys.false c.write_tree.ensures c.write_numbers.ensures
+    c.if-tree-bytes.false c.if-numbers-keys.false c.write_tree.ensures c.write_numbers.ensures

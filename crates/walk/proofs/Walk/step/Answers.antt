@@ -29,19 +29,19 @@ returns-then-p-gt-KEY_MAX c =
 pub returns-then-l-gt-KEY_MAX : goal.returns-then-l-gt-KEY_MAX
 returns-then-l-gt-KEY_MAX c =
     step_last _ _ (c.is_pool.ensures.yes c.if-not-is_pool.false) c.if-p-gt-KEY_MAX.false c.last_length-l.ensures
-        c.if-l-gt-KEY_MAX.true c.refused-then-l-gt-KEY_MAX.ensures
+    c.if-l-gt-KEY_MAX.true c.refused-then-l-gt-KEY_MAX.ensures
 
 pub returns-in_default : goal.returns-in_default
 returns-in_default c =
     step_ended (asked (goal.at.returns-in_default c).Else-l-gt-KEY_MAX) _ c.seek-found.ensures c.in_default.is
-        c.refused-in_default.ensures
+    c.refused-in_default.ensures
 
 pub returns-then-out-n : goal.returns-then-out-n
 returns-then-out-n c =
     step_short (asked (goal.at.returns-then-out-n c).Else-l-gt-KEY_MAX) _ c.seek-found.ensures c.in-Key.is c.if-out-n.true
-        c.refused-then-out-n.ensures
+    c.refused-then-out-n.ensures
 
 pub returns : goal.returns
 returns c =
     step_given (asked (goal.at.returns c).Else-l-gt-KEY_MAX) _ c.seek-found.ensures c.in-Key.is c.if-out-n.false
-        c.copy.ensures refl c.handed_on.ensures
+    c.copy.ensures refl c.handed_on.ensures
