@@ -2,7 +2,7 @@
  * Yarnhollow: a rule store for a web cache box. A byte key leads to a 64-bit number; all keys under a prefix can be cut
  * out at once; a whole store is written to and read from an image, whose every byte is checked.
  *
- * Link with libhost.a (`rt staticlib host` writes it to target/staticlib/). Of the C library it uses memcpy and memset. It
+ * Link with libhost.a (`tools/staticlib host` writes it to target/staticlib/). Of the C library it uses memcpy and memset. It
  * takes no memory and keeps no state between calls.
  *
  *
@@ -91,12 +91,12 @@
  *
  * STACK
  *
- * Read's check calls itself, level by level, and a key's bytes can stand on up to 4,096 levels. Measured at 4,096 levels: read
- * took 860,400 bytes of stack. What it takes goes by the image and not by the size of the pool, which counts last: a read that
- * was refused for a pool of one slot had taken as much. Call read with 1 MiB of stack left; the usual 8 MiB of a thread are
- * enough. A thread with less must not read an image from outside: no call tests the stack. `yarnhollow_next` took 20,800
- * bytes, write 8,500, insert of a key of 4,096 bytes 2,300, every other call at most 500. What the loader may take at the
- * first call of memcpy and memset is not counted.
+ * Read's check calls itself, level by level, and a key's bytes can stand on up to 4,096 levels. The most that was measured at
+ * 4,096 levels, of libraries that two kits built: read took 860,400 bytes of stack. What it takes goes by the image and not
+ * by the size of the pool, which counts last: a read that was refused for a pool of one slot had taken as much. Call read
+ * with 1 MiB of stack left; the usual 8 MiB of a thread are enough. A thread with less must not read an image from outside:
+ * no call tests the stack. `yarnhollow_next` took 20,800 bytes, write 8,500, insert of a key of 4,096 bytes 2,300, every
+ * other call at most 500. What the loader may take at the first call of memcpy and memset is not counted.
  */
 #ifndef YARNHOLLOW_H
 #define YARNHOLLOW_H

@@ -1,6 +1,6 @@
-// The store for a C program: one exported function a call. Each hands its call's answer on as document 01's number, and the
-// values besides through the results that the caller lends. `include/yarnhollow.h` is what a C program reads. A stored number
-// is a `RuleNo` inside; only the edge to C has plain 64 bits.
+// The store as a C program calls it: one function a call, which `host_c` exports. Each hands its call's answer on as document
+// 01's number, and the values besides through the results that the caller lends. `include/yarnhollow.h` is what a C program
+// reads. A stored number is a `RuleNo` inside; only the edge to C has plain 64 bits.
 #![tactic(auto)]
 
 ghost use Rattle.std.specs.Prelude.{◌≡◌, [], ◌∷◌};

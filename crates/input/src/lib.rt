@@ -55,7 +55,8 @@ fn keep(line: &mut [u8], n: usize, more: &[u8]) -> usize
 }
 
 // The next line. Reads on where the chunk ends before it. A loop has to end, and nothing says that a line does: the turns are
-// counted down from a number that no run uses up.
+// counted down from a number that no run uses up. An error is the reader's own: the state that was passed still stands, and the
+// line and the chunk may hold other bytes.
 pub fn next_line<R: Read>(
     from: &mut R,
     next: Next,

@@ -1,4 +1,5 @@
-// Text for a writer: numbers in decimal, bytes in lower-case hex, lists joined by commas, `-` for none.
+// Text for a writer: numbers in decimal, bytes in lower-case hex, lists joined by commas, `-` for none. An error is the writer's
+// own, and what was written before it stays written.
 #![tactic(auto)]
 
 ghost use Rattle.std.specs.Prelude.{◌≡◌, ◌<◌, length};
