@@ -1,45 +1,43 @@
 -- The names of the commands and of the pools, as bytes, and the front of a command. Assumes nothing.
-use Rattle.std.specs.Prelude.{◌≡◌, List, [], ◌∷◌, ◌⊎◌, ℕ, ◌+◌, ◌≤◌, ◌<◌, Bool, eqb, length, take, drop, get_or}
-use Rattle.std.proofs.Math.Option.{Option, none, some}
-use Rattle.label.specs.Runs.{index_of}
+use Rattle.std.specs.Prelude.{◌≡◌, List, ◌⊎◌, ℕ, ◌+◌, ◌≤◌, ◌<◌, Bool, eqb, length, take, drop, get_or, codes, Option, Some, None, Result, Ok, Err}
+use Rattle.line.specs.Spelling.{index_of}
 use Rattle.command.specs.declared.Verb.{Verb}
 use Rattle.command.specs.declared.Named.{Named}
 use Rattle.command.specs.declared.Command.{Command}
-use Rattle.command.specs.declared.Heard.{Heard}
+use Rattle.command.specs.declared.Words.{Words}
+use Rattle.command.specs.declared.NotCommand.{NotCommand}
 
 -- What a command is called
-abbrev pub verb_name : Verb → Option (List ℕ)
-verb_name Verb.Make = some (109 ∷ 97 ∷ 107 ∷ 101 ∷ [])
-verb_name Verb.Clear = some (99 ∷ 108 ∷ 101 ∷ 97 ∷ 114 ∷ [])
-verb_name Verb.Counts = some (99 ∷ 111 ∷ 117 ∷ 110 ∷ 116 ∷ 115 ∷ [])
-verb_name Verb.Write = some (119 ∷ 114 ∷ 105 ∷ 116 ∷ 101 ∷ [])
-verb_name Verb.Get = some (103 ∷ 101 ∷ 116 ∷ [])
-verb_name Verb.Remove = some (114 ∷ 101 ∷ 109 ∷ 111 ∷ 118 ∷ 101 ∷ [])
-verb_name Verb.Longest = some (108 ∷ 111 ∷ 110 ∷ 103 ∷ 101 ∷ 115 ∷ 116 ∷ [])
-verb_name Verb.Shared = some (115 ∷ 104 ∷ 97 ∷ 114 ∷ 101 ∷ 100 ∷ [])
-verb_name Verb.Walk = some (119 ∷ 97 ∷ 108 ∷ 107 ∷ [])
-verb_name Verb.Insert = some (105 ∷ 110 ∷ 115 ∷ 101 ∷ 114 ∷ 116 ∷ [])
-verb_name Verb.Split = some (115 ∷ 112 ∷ 108 ∷ 105 ∷ 116 ∷ [])
-verb_name Verb.Read = some (114 ∷ 101 ∷ 97 ∷ 100 ∷ [])
-verb_name Verb.Step = some (115 ∷ 116 ∷ 101 ∷ 112 ∷ [])
-verb_name Verb.Unknown = none
+abbrev pub verb_name : Verb → List ℕ
+verb_name Verb.Make = codes "make"
+verb_name Verb.Clear = codes "clear"
+verb_name Verb.Counts = codes "counts"
+verb_name Verb.Write = codes "write"
+verb_name Verb.Get = codes "get"
+verb_name Verb.Remove = codes "remove"
+verb_name Verb.Longest = codes "longest"
+verb_name Verb.Shared = codes "shared"
+verb_name Verb.Walk = codes "walk"
+verb_name Verb.Insert = codes "insert"
+verb_name Verb.Split = codes "split"
+verb_name Verb.Read = codes "read"
+verb_name Verb.Step = codes "step"
 
 -- What a pool is called
-abbrev pub pool_name : Named → Option (List ℕ)
-pool_name Named.First = some (48 ∷ [])
-pool_name Named.Second = some (49 ∷ [])
-pool_name Named.Unknown = none
+abbrev pub pool_name : Named → List ℕ
+pool_name Named.First = codes "0"
+pool_name Named.Second = codes "1"
 
--- What a word is the name of; a word that is no name is unknown.
-pub data NameOf {A : Type 0} (name : A → Option (List ℕ)) (unknown : A) : A → List ℕ → Type 0 where
-  called : {a : A} {s : List ℕ} → name a ≡ some s → NameOf name unknown a s
-  strange : {s : List ℕ} → ((a : A) → name a ≡ some s → ⊥) → NameOf name unknown unknown s
+-- What a word is the name of; none where it is no name
+abbrev pub NameOf : {A : Type 0} → (A → List ℕ) → Option A → List ℕ → Type 0
+NameOf name (Some a) s = name a ≡ s
+NameOf {A} name None s = (a : A) → name a ≡ s → ⊥
 
-abbrev pub VerbOf : Verb → List ℕ → Type 0
-VerbOf = NameOf verb_name Verb.Unknown
+abbrev pub VerbOf : Option Verb → List ℕ → Type 0
+VerbOf = NameOf verb_name
 
-abbrev pub NamedOf : Named → List ℕ → Type 0
-NamedOf = NameOf pool_name Named.Unknown
+abbrev pub NamedOf : Option Named → List ℕ → Type 0
+NamedOf = NameOf pool_name
 
 -- The first word of a line ends at the first space, or with the line; and what stands behind that space.
 abbrev pub first_word : List ℕ → List ℕ
@@ -50,23 +48,30 @@ behind_word s = drop (index_of 32 s + 1) s
 
 -- The front of a line of two words or more: a verb, a pool, and where the pool's name ends
 pub record Fronted (s : List ℕ) (r : Command) : Type 0 where
-  pub verb : VerbOf r.verb (first_word s)
-  pub pool : NamedOf r.pool (first_word (behind_word s))
+  pub verb : VerbOf (Some r.verb) (first_word s)
+  pub pool : NamedOf (Some r.pool) (first_word (behind_word s))
   pub end : r.end ≡ index_of 32 s + 1 + index_of 32 (behind_word s)
-
--- A line of one word is no command.
-pub record CommandOf (s : List ℕ) (r : Command) : Type 0 where
-  pub lone : length s ≤ index_of 32 s → r.verb ≡ Verb.Unknown
-  pub front : index_of 32 s < length s → Fronted s r
+  pub more : index_of 32 s < length s
   pub within : r.end ≤ length s
+
+-- A line of one word is no command, nor is one whose first word is no verb or whose second is no pool.
+abbrev pub CommandOf : Option Command → List ℕ → Type 0
+CommandOf (Some r) s = Fronted s r
+CommandOf None s = index_of 32 s < length s → VerbOf None (first_word s) ⊎ NamedOf None (first_word (behind_word s))
 
 -- A comment is told by its first byte, `#`.
 abbrev pub CommentOf : Bool → List ℕ → Type 0
 CommentOf b s = b ≡ eqb (get_or s 0 0) 35
 
--- What a line of n bytes, of which s holds as many as fit, asks for: an empty line and a comment nothing, one that does not fit
--- no command, any other what its front names.
-abbrev pub HeardOf : Heard → List ℕ → ℕ → Type 0
-HeardOf Heard.Nothing s n = (n ≡ 0) ⊎ (get_or s 0 0 ≡ 35)
-HeardOf (Heard.Asks c w) s n =
-    (0 < n) × (get_or s 0 0 ≡ 35 → ⊥) × (length s < n → c.verb ≡ Verb.Unknown) × (n ≤ length s → CommandOf (take n s) c)
+-- What a line of n bytes, of which s holds as many as fit, asks for: what its front names, if it fits and its words are good for
+-- that.
+abbrev pub AskedOf : Result (Command × Words) NotCommand → List ℕ → ℕ → Type 0
+AskedOf (Ok (c, w)) s n = (n ≤ length s) × CommandOf (Some c) (take n s)
+AskedOf (Err NotCommand.TooLong) s n = length s < n
+AskedOf (Err NotCommand.Front) s n = (n ≤ length s) × CommandOf None (take n s)
+AskedOf (Err NotCommand.Words) s n = (n ≤ length s) × ((c : Command) × CommandOf (Some c) (take n s))
+
+-- An empty line and a comment ask for nothing.
+abbrev pub HeardOf : Option (Result (Command × Words) NotCommand) → List ℕ → ℕ → Type 0
+HeardOf None s n = (n ≡ 0) ⊎ (get_or s 0 0 ≡ 35)
+HeardOf (Some r) s n = (0 < n) × (get_or s 0 0 ≡ 35 → ⊥) × AskedOf r s n

@@ -2,9 +2,8 @@
 #![tactic(auto)]
 
 ghost use Rattle.std.specs.Prelude.{◌≡◌, take, drop};
-ghost use Rattle.command.specs.Front.{VerbOf, NamedOf, CommandOf, CommentOf, HeardOf};
+ghost use Rattle.command.specs.Front.{VerbOf, NamedOf, CommandOf, CommentOf, AskedOf, HeardOf};
 
-use line::{Numeral, Taken};
 use tree::{KEY_MAX, RuleNo};
 
 // What a command asks for.
@@ -23,15 +22,13 @@ pub enum Verb {
     Split,
     Read,
     Step,
-    Unknown,
 }
 
 // A pool's name.
-#[derive(Clone, Copy)]
+#[derive(Clone, Copy, PartialEq, Eq)]
 pub enum Named {
     First,
     Second,
-    Unknown,
 }
 
 // The front of a command: its verb, the pool that it names, and where that name ends; behind a space there its further words
@@ -43,270 +40,161 @@ pub struct Command {
     pub end: usize,
 }
 
-// What the words behind the pool's name stand for, if they are `good` for their verb. A key, a prefix or an image is the first
-// `key` bytes of the room, and the last key given of a walk the `last` bytes behind them, if `begun` says that one was. `number`
-// is the number to store; `count` is how many numbers an image has, or the length of a step's output.
+// What the words behind the pool's name stand for. A key, a prefix or an image is the first `key` bytes of the room, and the last
+// key given of a walk, if one was, so many bytes behind them. `number` is the number to store; `count` is how many numbers an
+// image has, or the length of a step's output.
 #[derive(Clone, Copy)]
 pub struct Words {
-    pub good: bool,
     pub key: usize,
-    pub last: usize,
-    pub begun: bool,
+    pub last: Option<usize>,
     pub number: RuleNo,
     pub count: usize,
 }
 
-// An empty line and a comment ask for nothing.
+// Why a line is no command: it is longer than its room, its front names no verb or no pool, or its words are none that its verb
+// takes.
 #[derive(Clone, Copy)]
-pub enum Heard {
-    Nothing,
-    Asks(Command, Words),
+pub enum NotCommand {
+    TooLong,
+    Front,
+    Words,
 }
 
-// A name for each verb; a word that is none of them is unknown.
-fn verb_named(s: &[u8]) -> Verb
+// A name for each verb.
+fn verb_named(s: &[u8]) -> Option<Verb>
     ensures { VerbOf result s.now }
 {
-    if check::same(s, b"make") {
-        return Verb::Make;
+    match s {
+        b"make" => Some(Verb::Make),
+        b"clear" => Some(Verb::Clear),
+        b"counts" => Some(Verb::Counts),
+        b"write" => Some(Verb::Write),
+        b"get" => Some(Verb::Get),
+        b"remove" => Some(Verb::Remove),
+        b"longest" => Some(Verb::Longest),
+        b"shared" => Some(Verb::Shared),
+        b"walk" => Some(Verb::Walk),
+        b"insert" => Some(Verb::Insert),
+        b"split" => Some(Verb::Split),
+        b"read" => Some(Verb::Read),
+        b"step" => Some(Verb::Step),
+        _ => None,
     }
-    if check::same(s, b"clear") {
-        return Verb::Clear;
-    }
-    if check::same(s, b"counts") {
-        return Verb::Counts;
-    }
-    if check::same(s, b"write") {
-        return Verb::Write;
-    }
-    if check::same(s, b"get") {
-        return Verb::Get;
-    }
-    if check::same(s, b"remove") {
-        return Verb::Remove;
-    }
-    if check::same(s, b"longest") {
-        return Verb::Longest;
-    }
-    if check::same(s, b"shared") {
-        return Verb::Shared;
-    }
-    if check::same(s, b"walk") {
-        return Verb::Walk;
-    }
-    if check::same(s, b"insert") {
-        return Verb::Insert;
-    }
-    if check::same(s, b"split") {
-        return Verb::Split;
-    }
-    if check::same(s, b"read") {
-        return Verb::Read;
-    }
-    if check::same(s, b"step") {
-        return Verb::Step;
-    }
-    Verb::Unknown
 }
 
 // The same of the pools.
-fn pool_named(s: &[u8]) -> Named
+fn pool_named(s: &[u8]) -> Option<Named>
     ensures { NamedOf result s.now }
 {
-    if check::same(s, b"0") {
-        return Named::First;
-    }
-    if check::same(s, b"1") {
-        return Named::Second;
-    }
-    Named::Unknown
-}
-
-// The front of a line that is no command.
-fn no_command() -> Command
-    ensures { (result.verb ≡ Verb.Unknown) × (result.pool ≡ Named.Unknown) × (result.end ≡ 0) }
-{
-    Command {
-        verb: Verb::Unknown,
-        pool: Named::Unknown,
-        end: 0,
+    match s {
+        b"0" => Some(Named::First),
+        b"1" => Some(Named::Second),
+        _ => None,
     }
 }
 
 // The front of a line. A line of one word is no command.
-fn command_in(s: &[u8]) -> Command
-    ensures { CommandOf s.now result }
+fn command_in(s: &[u8]) -> Option<Command>
+    ensures { CommandOf result s.now }
 {
     let n = line::word_end(s);
     if n == s.len() {
-        return no_command();
+        return None;
     }
     let rest = &s[n + 1..];
     let m = line::word_end(rest);
-    Command {
-        verb: verb_named(&s[..n]),
-        pool: pool_named(&rest[..m]),
+    Some(Command {
+        verb: verb_named(&s[..n])?,
+        pool: pool_named(&rest[..m])?,
         end: n + 1 + m,
-    }
+    })
 }
 
-// The first n bytes of a run, or all of it.
-pub fn first_bytes(bytes: &[u8], n: usize) -> &[u8]
-    ensures { result.now ≡ take n bytes.now }
+// The first n of a run, or all of it.
+pub fn first<T>(run: &[T], n: usize) -> &[T]
+    ensures { result.now ≡ take n run.now }
 {
-    if n < bytes.len() {
-        return &bytes[..n];
-    }
-    bytes
+    &run[..n.min(run.len())]
 }
 
-// What stands behind the first n bytes.
-pub fn bytes_behind(bytes: &[u8], n: usize) -> &[u8]
-    ensures { result.now ≡ drop n bytes.now }
+// What stands behind the first n.
+pub fn behind<T>(run: &[T], n: usize) -> &[T]
+    ensures { result.now ≡ drop n run.now }
 {
-    if n < bytes.len() {
-        return &bytes[n..];
-    }
-    &bytes[bytes.len()..]
-}
-
-// The first n numbers of a run, or all of it.
-pub fn first_numbers(numbers: &[u64], n: usize) -> &[u64]
-    ensures { result.now ≡ take n numbers.now }
-{
-    if n < numbers.len() {
-        return &numbers[..n];
-    }
-    numbers
+    &run[n.min(run.len())..]
 }
 
 // A key and nothing more.
 fn keyed(key: usize) -> Words {
     Words {
-        good: true,
         key,
-        last: 0,
-        begun: false,
-        number: RuleNo(0),
-        count: 0,
-    }
-}
-
-// Words that their verb does not take.
-fn bad() -> Words {
-    Words {
-        good: false,
-        key: 0,
-        last: 0,
-        begun: false,
+        last: None,
         number: RuleNo(0),
         count: 0,
     }
 }
 
 // No word at all.
-fn no_words(verb: Verb) -> Words {
+fn no_words(verb: Verb) -> Option<Words> {
     match verb {
-        Verb::Make | Verb::Clear | Verb::Counts | Verb::Write => keyed(0),
-        _ => bad(),
+        Verb::Make | Verb::Clear | Verb::Counts | Verb::Write => Some(keyed(0)),
+        _ => None,
     }
 }
 
 // One word, which was read as a key.
-fn one_word(verb: Verb, key: usize) -> Words {
+fn one_word(verb: Verb, key: usize) -> Option<Words> {
     match verb {
-        Verb::Get | Verb::Remove | Verb::Longest | Verb::Shared | Verb::Walk => keyed(key),
-        _ => bad(),
+        Verb::Get | Verb::Remove | Verb::Longest | Verb::Shared | Verb::Walk => Some(keyed(key)),
+        _ => None,
     }
 }
 
 // A number to store.
-fn with_number(key: usize, word: &[u8]) -> Words {
-    let Numeral::Is(v) = line::number(word) else {
-        return bad();
-    };
-    Words {
-        good: true,
-        key,
-        last: 0,
-        begun: false,
-        number: RuleNo(v),
-        count: 0,
-    }
+fn with_number(key: usize, word: &[u8]) -> Option<Words> {
+    let number = RuleNo(line::number(word)?);
+    Some(Words {
+        number,
+        ..keyed(key)
+    })
 }
 
 // The numbers of an image.
-fn with_numbers(key: usize, word: &[u8], numbers: &mut [u64]) -> Words {
-    let Taken::Count(count) = line::numbers(word, numbers) else {
-        return bad();
-    };
-    Words {
-        good: true,
-        key,
-        last: 0,
-        begun: false,
-        number: RuleNo(0),
+fn with_numbers(key: usize, word: &[u8], numbers: &mut [u64]) -> Option<Words> {
+    let count = line::numbers(word, numbers)?;
+    Some(Words {
         count,
-    }
+        ..keyed(key)
+    })
 }
 
 // A split names the other pool.
-fn with_pool(pool: Named, key: usize, word: &[u8]) -> Words {
-    let other = pool_named(word);
-    match other {
-        Named::First => {
-            if let Named::Second = pool {
-                return keyed(key);
-            }
-        }
-        Named::Second => {
-            if let Named::First = pool {
-                return keyed(key);
-            }
-        }
-        Named::Unknown => {}
+fn with_pool(pool: Named, key: usize, word: &[u8]) -> Option<Words> {
+    if pool_named(word)? == pool {
+        return None;
     }
-    bad()
+    Some(keyed(key))
 }
 
-// A step's output has at most 4,096 bytes. Its last key is spelt by a word, `.` if none was given.
-fn with_last(key: usize, word: &[u8], count: usize, room: &mut [u8]) -> Words {
-    if count > KEY_MAX {
-        return bad();
-    }
-    if check::same(word, b".") {
-        return Words {
-            good: true,
-            key,
-            last: 0,
-            begun: false,
-            number: RuleNo(0),
-            count,
-        };
-    }
-    let Taken::Count(last) = line::key(word, room) else {
-        return bad();
-    };
-    Words {
-        good: true,
-        key,
-        last,
-        begun: true,
-        number: RuleNo(0),
-        count,
-    }
-}
-
-// The last key of a walk and the output's length.
-fn with_step(key: usize, rest: &[u8], room: &mut [u8]) -> Words {
+// The last key of a walk, spelt by a word, `.` if none was given; and the output's length, at most 4,096.
+fn with_step(key: usize, rest: &[u8], room: &mut [u8]) -> Option<Words> {
     let n = line::word_end(rest);
     if n == rest.len() {
-        return bad();
+        return None;
     }
-    let Numeral::Is(count) = line::number(&rest[n + 1..]) else {
-        return bad();
+    let count = line::number(&rest[n + 1..])? as usize;
+    if count > KEY_MAX {
+        return None;
+    }
+    let last = match &rest[..n] {
+        b"." => None,
+        word => Some(line::key(word, room)?),
     };
-    with_last(key, &rest[0..n], count as usize, room)
+    Some(Words {
+        last,
+        count,
+        ..keyed(key)
+    })
 }
 
 // A word that was read as a key, and more behind it.
@@ -316,20 +204,18 @@ fn more_words(
     rest: &[u8],
     room: &mut [u8],
     numbers: &mut [u64],
-) -> Words {
-    let verb = command.verb;
-    let pool = command.pool;
-    match verb {
+) -> Option<Words> {
+    match command.verb {
         Verb::Insert => with_number(key, rest),
         Verb::Read => with_numbers(key, rest, numbers),
-        Verb::Split => with_pool(pool, key, rest),
+        Verb::Split => with_pool(command.pool, key, rest),
         Verb::Step => with_step(key, rest, room),
-        _ => bad(),
+        _ => None,
     }
 }
 
 // The words behind the pool's name. The first, if there is one, is hex.
-fn words_of(command: Command, line: &[u8], bytes: &mut [u8], numbers: &mut [u64]) -> Words {
+fn words_of(command: Command, line: &[u8], bytes: &mut [u8], numbers: &mut [u64]) -> Option<Words> {
     let verb = command.verb;
     let end = command.end;
     if end >= line.len() {
@@ -337,14 +223,12 @@ fn words_of(command: Command, line: &[u8], bytes: &mut [u8], numbers: &mut [u64]
     }
     let rest = &line[end + 1..];
     let n = line::word_end(rest);
-    let Taken::Count(key) = line::key(&rest[0..n], bytes) else {
-        return bad();
-    };
+    let key = line::key(&rest[..n], bytes)?;
     if n == rest.len() {
         return one_word(verb, key);
     }
     if key > bytes.len() {
-        return bad();
+        return None;
     }
     more_words(command, key, &rest[n + 1..], &mut bytes[key..], numbers)
 }
@@ -353,27 +237,39 @@ fn words_of(command: Command, line: &[u8], bytes: &mut [u8], numbers: &mut [u64]
 fn is_comment(line: &[u8]) -> bool
     ensures { CommentOf result line.now }
 {
-    if line.len() == 0 {
-        return false;
-    }
-    line[0] == b'#'
+    !line.is_empty() && line[0] == b'#'
 }
 
-// What a line of n bytes asks for; the room holds as many of them as fit. A comment is passed over, however long it is.
-pub fn hear(line: &[u8], n: usize, bytes: &mut [u8], numbers: &mut [u64]) -> Heard
-    ensures { HeardOf result line.now n }
+// What a line of n bytes that is no comment asks for.
+fn asked(
+    line: &[u8],
+    n: usize,
+    bytes: &mut [u8],
+    numbers: &mut [u64],
+) -> Result<(Command, Words), NotCommand>
+    ensures { AskedOf result line.now n }
 {
-    if n == 0 {
-        return Heard::Nothing;
-    }
-    if is_comment(line) {
-        return Heard::Nothing;
-    }
     if n > line.len() {
-        return Heard::Asks(no_command(), bad());
+        return Err(NotCommand::TooLong);
     }
     let whole = &line[..n];
-    let command = command_in(whole);
-    let words = words_of(command, whole, bytes, numbers);
-    Heard::Asks(command, words)
+    let command = command_in(whole).ok_or(NotCommand::Front)?;
+    let words = words_of(command, whole, bytes, numbers).ok_or(NotCommand::Words)?;
+    Ok((command, words))
+}
+
+// What a line of n bytes asks for; the room holds as many of them as fit. An empty line and a comment ask for nothing. A comment
+// is passed over, however long it is.
+pub fn hear(
+    line: &[u8],
+    n: usize,
+    bytes: &mut [u8],
+    numbers: &mut [u64],
+) -> Option<Result<(Command, Words), NotCommand>>
+    ensures { HeardOf result line.now n }
+{
+    if n == 0 || is_comment(line) {
+        return None;
+    }
+    Some(asked(line, n, bytes, numbers))
 }

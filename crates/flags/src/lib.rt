@@ -30,38 +30,37 @@ pub fn flag_byte(number: bool, child: bool, sibling: bool) -> u8
 pub fn has_number(f: u8) -> usize
     ensures { (result ≡ has_number f) × (result < 2) }
 {
-    f as usize / 2 % 2
+    usize::from(f / 2 % 2)
 }
 
 // The same of children. Counterpart: `Flags::CHILD_INITIALIZED`.
 pub fn has_child(f: u8) -> usize
     ensures { (result ≡ has_child f) × (result < 2) }
 {
-    f as usize / 8 % 2
+    usize::from(f / 8 % 2)
 }
 
 // The same of a younger sibling. Counterpart: `Flags::SIBLING_INITIALIZED`.
 pub fn has_sibling(f: u8) -> usize
     ensures { (result ≡ has_sibling f) × (result < 2) }
 {
-    f as usize / 32 % 2
+    usize::from(f / 32 % 2)
 }
 
 // Whether a flag byte that was read can stand at a level. A pair that is 2 says initialised without allocated.
 pub fn flags_sound(f: u8, level: Level) -> bool
     ensures { result ≡ passes (judge (flag_rules f level.0 (refusal 7))) }
 {
-    let bits = f as usize;
-    if bits > 63 {
+    if f > 63 {
         return false;
     }
-    if bits % 4 == 2 {
+    if f % 4 == 2 {
         return false;
     }
-    if bits / 4 % 4 == 2 {
+    if f / 4 % 4 == 2 {
         return false;
     }
-    if bits / 16 == 2 {
+    if f / 16 == 2 {
         return false;
     }
     if level.0 != 0 {

@@ -1,3 +1,4 @@
 pub mod Handed
 pub mod Resuming
 pub mod Decided
+pub mod FewTold

@@ -1,2 +1,3 @@
 pub mod Host
 pub mod Resumed
+pub mod Few

@@ -20,14 +20,14 @@ pub fn yarnhollow_make(labels: &mut [u8], words: &mut [u32]) -> u32
     ensures { let was = lent labels.old words.old in
         Changes over (make_call (size_in was)) result [] [] was (lent labels.new words.new) }
 {
-    pool::make(labels, words).number()
+    tree::number(&pool::make(labels, words))
 }
 
 pub fn yarnhollow_clear(labels: &mut [u8], words: &mut [u32]) -> u32
     ensures { let was = lent labels.old words.old in
         Changes over (clear_call (tree_in was)) result [] [] was (lent labels.new words.new) }
 {
-    pool::clear(labels, words).number()
+    tree::number(&pool::clear(labels, words))
 }
 
 pub fn yarnhollow_get(
@@ -44,7 +44,7 @@ pub fn yarnhollow_get(
 {
     let answer = search::get(labels, words, key);
     results::store_got(answer, number, looked);
-    answer.number()
+    tree::number(&answer)
 }
 
 pub fn yarnhollow_insert(
@@ -64,7 +64,7 @@ pub fn yarnhollow_insert(
 {
     let answer = insert::insert(labels, words, key, RuleNo(number));
     results::store_inserted(answer, had_old, old, looked);
-    answer.number()
+    tree::number(&answer)
 }
 
 pub fn yarnhollow_remove(
@@ -82,7 +82,7 @@ pub fn yarnhollow_remove(
 {
     let answer = remove::remove(labels, words, key);
     results::store_got(answer, old, looked);
-    answer.number()
+    tree::number(&answer)
 }
 
 pub fn yarnhollow_longest(
@@ -100,7 +100,7 @@ pub fn yarnhollow_longest(
 {
     let answer = search::longest(labels, words, query);
     results::store_prefixed(answer, prefix_length, number, looked);
-    answer.number()
+    tree::number(&answer)
 }
 
 pub fn yarnhollow_shared(
@@ -117,7 +117,7 @@ pub fn yarnhollow_shared(
 {
     let answer = search::shared(labels, words, query);
     results::store_sharing(answer, shared_length, looked);
-    answer.number()
+    tree::number(&answer)
 }
 
 // The walk that the lent state stands for.
@@ -151,7 +151,7 @@ pub fn yarnhollow_next(
     let step = resumed(prefix, last, begun).step(labels, words, out);
     let answer = step.answer;
     results::store_stepped(answer, key_length, number);
-    answer.number()
+    tree::number(&answer)
 }
 
 pub fn yarnhollow_split(
@@ -166,7 +166,7 @@ pub fn yarnhollow_split(
         let call = split_call (tree_in was) (size_in was₂) prefix.now in
         Splits call result was was₂ (lent labels.new words.new) (lent labels2.new words2.new) }
 {
-    split::split(labels, words, prefix, labels2, words2).number()
+    tree::number(&split::split(labels, words, prefix, labels2, words2))
 }
 
 pub fn yarnhollow_counts(labels: &[u8], words: &[u32], keys: &mut usize, nodes: &mut usize) -> u32
@@ -177,7 +177,7 @@ pub fn yarnhollow_counts(labels: &[u8], words: &[u32], keys: &mut usize, nodes: 
 {
     let answer = pool::counts(labels, words);
     results::store_counted(answer, keys, nodes);
-    answer.number()
+    tree::number(&answer)
 }
 
 pub fn yarnhollow_write(
@@ -196,7 +196,7 @@ pub fn yarnhollow_write(
 {
     let answer = writer::write(labels, words, tree, numbers);
     results::store_written(answer, tree_length, numbers_length);
-    answer.number()
+    tree::number(&answer)
 }
 
 pub fn yarnhollow_read(
@@ -212,5 +212,5 @@ pub fn yarnhollow_read(
 {
     let answer = reader::read(labels, words, tree, numbers);
     results::store_loaded(answer, offset);
-    answer.number()
+    tree::number(&answer)
 }

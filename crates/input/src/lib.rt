@@ -1,93 +1,77 @@
 // A reader's bytes, line by line.
 #![tactic(auto)]
 
-ghost use Rattle.std.specs.Prelude.{IfOk};
+ghost use Rattle.std.specs.Prelude.{IfOk, IfSome};
 ghost use Rattle.input.specs.Lines.{Keeps, Unread};
 
 use std::io::{self, Read};
 
-// A line: so many bytes of it have come, one more than its room has where it is too long. The next one begins at `at` in the
-// chunk, of which `got` bytes are read; or the input has ended.
+// What of a chunk is still to be taken: the bytes from `at` to `got`, where what is read ends.
+#[derive(Clone, Copy)]
+pub struct Rest {
+    pub at: usize,
+    pub got: usize,
+}
+
+// A line: so many bytes of it have come, one more than its room has where it is too long. What is still to be taken of the chunk
+// stands behind it, or none, if the input has ended.
 #[derive(Clone, Copy)]
 pub struct Next {
     pub len: usize,
-    pub at: usize,
-    pub got: usize,
-    pub ended: bool,
+    pub rest: Option<Rest>,
 }
 
 // Before the first line nothing is read.
-pub fn start() -> Next
+pub fn start() -> Rest
     ensures { Unread result.at result.got }
 {
-    Next {
-        len: 0,
-        at: 0,
-        got: 0,
-        ended: false,
-    }
-}
-
-fn ended(len: usize) -> Next
-    ensures { Unread result.at result.got }
-{
-    Next {
-        len,
-        at: 0,
-        got: 0,
-        ended: true,
-    }
+    Rest { at: 0, got: 0 }
 }
 
 // More bytes of a line, behind the n that have come.
 fn keep(line: &mut [u8], n: usize, more: &[u8]) -> usize
     ensures { Keeps line.old n more.now result line.new }
 {
-    if n > line.len() {
-        return line.len() + 1;
-    }
-    if line.len() - n < more.len() {
+    if n > line.len() || line.len() - n < more.len() {
         return line.len() + 1;
     }
     let end = n + more.len();
-    label::copy(&mut line[n..end], more);
+    line[n..end].copy_from_slice(more);
     end
 }
 
 // The next line. Reads on where the chunk ends before it. A loop has to end, and nothing says that a line does: the turns are
-// counted down from a number that no run uses up. An error is the reader's own: the state that was passed still stands, and the
-// line and the chunk may hold other bytes.
+// counted up to a number that no run comes to. An error is the reader's own: the state that was passed still stands, and the line
+// and the chunk may hold other bytes.
 pub fn next_line<R: Read>(
     from: &mut R,
-    next: Next,
+    rest: Rest,
     line: &mut [u8; 131072],
     chunk: &mut [u8; 4096],
 ) -> io::Result<Next>
-    requires { Unread next.at next.got }
-    ensures { IfOk result (λ r. Unread r.at r.got) }
+    requires { Unread rest.at rest.got }
+    ensures { IfOk result (λ r. IfSome r.rest (λ u. Unread u.at u.got)) }
 {
     let mut len: usize = 0;
-    let mut at = next.at;
-    let mut got = next.got;
-    let mut turns = u64::MAX;
-    while turns > 0 {
-        let part = &chunk[..];
-        let end = label::find(part, at, got, b'\n');
-        len = keep(line, len, &part[at..end]);
-        if end < got {
+    let mut at = rest.at;
+    let mut got = rest.got;
+    for _ in 0..u64::MAX {
+        let part = &chunk[at..got];
+        if let Some(n) = part.iter().position(|b| *b == b'\n') {
             return Ok(Next {
-                len,
-                at: end + 1,
-                got,
-                ended: false,
+                len: keep(line, len, &part[..n]),
+                rest: Some(Rest {
+                    at: at + n + 1,
+                    got,
+                }),
             });
         }
-        got = from.read(chunk)?;
+        len = keep(line, len, part);
         at = 0;
+        got = from.read(chunk)?;
         if got == 0 {
-            return Ok(ended(len));
+            break;
         }
-        turns -= 1;
     }
-    Ok(ended(len))
+    Ok(Next { len, rest: None })
 }

@@ -146,6 +146,6 @@ module _ (ws bs key : List ℕ) (v : ℕ) where
   unfolding insert_call
   insert-refused h = rw (no-rule ws bs h) (record { said = refl; words = refl; labels = refl })
 
-  pub insert_long : PoolRule ws bs → 4096 < length key → Meets (insert_call (pool_tree ws bs) (slots_in bs) key v) (refusal 2) ws bs ws bs
+  pub insert_long : PoolRule ws bs → ¬ (length key ≤ key_max) → Meets (insert_call (pool_tree ws bs) (slots_in bs) key v) (refusal 2) ws bs ws bs
   unfolding insert_call
   insert_long r h = rw ((rule-tree ws bs r).1, fits_not key h, insert_call) (record { said = refl; words = refl; labels = refl })

@@ -2,7 +2,6 @@
 use mathlib.Core.Path.{◌≡◌, refl, sym, ap, ◌∙◌, subst}
 use mathlib.Core.Bool.{Bool, true, false}
 use mathlib.Core.List.{List, [], ◌∷◌}
-use mathlib.Core.Option.{none, some}
 use Prim.Native.Nat.{ℕ, ◌+◌, ◌-◌, ◌≤◌, ◌<◌}
 use native.Mathlib.Omega.{arith}
 use lib.Dec.{ltb}
@@ -10,10 +9,12 @@ use lib.ListN.{length, get_or, length-append}
 use Rattle.tree.specs.Key.{Key}
 use Rattle.tree.specs.Map.{Num}
 use Rattle.tree.specs.Image.{numbers_w}
-use Rattle.tree.specs.Told.{done}
+use Rattle.std.specs.Prelude.{Option, Some, None}
+use Rattle.tree.specs.Told.{done, old_before}
+use Rattle.tree.specs.declared.RuleNo.{RuleNo}
 use Rattle.slots.specs.Layout.{bytes_for, nodes_of, len_of, span_of, label_of, start_of}
 use Rattle.pool.specs.Rule.{PoolRule}
-use Rattle.slots.specs.Bare.{Bare, bare_at, bares_from, Filled, front_of, back_of}
+use Rattle.slots.specs.Bare.{Bare, stored_of, bare_at, bares_from, Filled, front_of, back_of}
 use Rattle.splice.specs.Splice.{Settled}
 use Rattle.splice.specs.Spans.{Covers}
 use Rattle.label.proofs.Moves.{by_eq}
@@ -86,15 +87,11 @@ replaced_one ws bs vs cs at x h l f =
       back = λ i o. f.others (at + 1 + i) (λ q. omega arith) (omega arith);
     }
 
--- The old number, told before the count
-module _ (w : Num) (n : ℕ) where
-  pub told_new : none ≡ w → done (n ∷ []) ≡ done (numbers_w w (n ∷ []))
-  unfolding numbers_w
-  told_new e = rw (← e) refl
-
-  pub told_old : (v : ℕ) → some v ≡ w → done (v ∷ n ∷ []) ≡ done (numbers_w w (n ∷ []))
-  unfolding numbers_w
-  told_old v e = rw (← e) refl
+-- The old number is told before the count.
+pub told_set : (old : Option RuleNo) (n : ℕ) {w : Num} → stored_of old ≡ w → done (old_before old (n ∷ [])) ≡ done (numbers_w w (n ∷ []))
+unfolding numbers_w
+told_set None n e = rw (← e) refl
+told_set (Some v) n e = rw (← e) refl
 
 -- Where every slot says what it said, but for its number, the spans are right.
 settled_same : (ws bs us : List ℕ) → PoolRule ws bs → nodes_of us ≡ nodes_of ws → ((i : ℕ) → i < nodes_of ws → Like ws us i i) → Settled us us (nodes_of ws)

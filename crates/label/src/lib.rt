@@ -1,18 +1,10 @@
-// Runs of bytes and words: what the store does with labels, keys and whole slots, a loop of its own each.
+// Runs of bytes: what two of them share.
 #![tactic(auto)]
 
-ghost use Rattle.std.specs.Prelude.{◌≡◌, leb, length, slice_range, drop};
-ghost use Prim.Native.Nat.{◌+◌, ◌*◌, ◌/◌, ◌≤◌, ◌<◌, min, compare};
+ghost use Rattle.std.specs.Prelude.{◌≡◌, leb, length, drop};
+ghost use Prim.Native.Nat.{◌+◌, ◌*◌, ◌/◌, ◌≤◌, ◌<◌, min};
 ghost use Rattle.tree.specs.Key.{common};
-ghost use Rattle.label.specs.Runs.{order_of, four_at, eight_at, index_of, MovedUp, MovedDown};
-
-// How the first byte of a key stands to the first byte of a label.
-#[derive(Clone, Copy)]
-pub enum First {
-    Below,
-    Same,
-    Above,
-}
+ghost use Rattle.label.specs.Runs.{four_at, eight_at};
 
 // How many leading bytes two runs share: in steps of eight where both have eight left, by one of four, then singly.
 // Counterpart: `strip_common_prefix_and_len`.
@@ -28,15 +20,14 @@ pub fn shared_length(k: &[u8], l: &[u8]) -> usize
 fn shared_eights(k: &[u8], l: &[u8]) -> usize
     ensures { result ≡ 8 * (common k.now l.now / 8) }
 {
-    let most = shorter(k.len(), l.len());
-    let mut i: usize = 0;
-    while most - i >= 8 {
+    let eights = k.len().min(l.len()) / 8;
+    for n in 0..eights {
+        let i = 8 * n;
         if !eight_same(k, l, i) {
             return i;
         }
-        i += 8;
     }
-    i
+    8 * eights
 }
 
 // How many are passed by one step of four more, if four more are shared. Without it the test for eight would make a run
@@ -45,10 +36,8 @@ fn shared_fours(k: &[u8], l: &[u8], i: usize) -> usize
     requires { i ≡ 8 * (common k.now l.now / 8) }
     ensures { result ≡ 4 * (common k.now l.now / 4) }
 {
-    if shorter(k.len(), l.len()) - i < 4 {
-        return i;
-    }
-    if four_same(k, l, i) {
+    let left = k.len().min(l.len()) - i;
+    if left >= 4 && four_same(k, l, i) {
         return i + 4;
     }
     i
@@ -59,25 +48,13 @@ pub fn shared_singly(k: &[u8], l: &[u8], from: usize) -> usize
     requires { from ≤ common k.now l.now }
     ensures { result ≡ common k.now l.now }
 {
-    let most = shorter(k.len(), l.len());
-    let mut i = from;
-    while i < most {
+    let most = k.len().min(l.len());
+    for i in from..most {
         if k[i] != l[i] {
             return i;
         }
-        i += 1;
     }
-    i
-}
-
-// The smaller of two lengths.
-fn shorter(a: usize, b: usize) -> usize
-    ensures { result ≡ min a b }
-{
-    if a < b {
-        return a;
-    }
-    b
+    most
 }
 
 // Whether the eight bytes at i are the same in both.
@@ -96,114 +73,27 @@ fn four_same(k: &[u8], l: &[u8], i: usize) -> bool
     four(k, i) == four(l, i)
 }
 
-// The eight bytes at i as one number, the first the lowest. The compiler makes one load of such a sum, and early enough
-// that it counts as one where `shared_length` is laid into its callers.
+// The eight bytes at i as one number, the first the lowest: one load.
 fn eight(b: &[u8], i: usize) -> u64
     requires { i + 8 ≤ length b.now }
     ensures { result ≡ eight_at b.now i }
 {
-    four(b, i) + 4294967296 * four(b, i + 4)
+    u64::from_le_bytes([
+        b[i],
+        b[i + 1],
+        b[i + 2],
+        b[i + 3],
+        b[i + 4],
+        b[i + 5],
+        b[i + 6],
+        b[i + 7],
+    ])
 }
 
 // The same of four bytes.
-fn four(b: &[u8], i: usize) -> u64
+fn four(b: &[u8], i: usize) -> u32
     requires { i + 4 ≤ length b.now }
-    ensures { (result ≡ four_at b.now i) × (result < 4294967296) }
+    ensures { result ≡ four_at b.now i }
 {
-    wide(b[i]) + 256 * (wide(b[i + 1]) + 256 * (wide(b[i + 2]) + 256 * wide(b[i + 3])))
-}
-
-// A byte, widened.
-fn wide(x: u8) -> u64
-    ensures { (result ≡ x) × (result < 256) }
-{
-    x as u64
-}
-
-// The order of two first bytes. Counterpart: `cmp_first_item`.
-pub fn cmp_first_item(key: u8, label: u8) -> First
-    ensures { order_of result ≡ compare key label }
-{
-    if key < label {
-        return First::Below;
-    }
-    if label < key {
-        return First::Above;
-    }
-    First::Same
-}
-
-// Where the first b stands among the places `from` .. `to`, or `to` where none does.
-pub fn find(s: &[u8], from: usize, to: usize, b: u8) -> usize
-    requires { (from ≤ to) × (to ≤ length s.now) }
-    ensures { (result ≡ from + index_of b (slice_range s.now from to)) × (result ≤ to) }
-{
-    let mut i = from;
-    while i < to {
-        if s[i] == b {
-            return i;
-        }
-        i += 1;
-    }
-    to
-}
-
-// Fills one run from another of the same length.
-pub fn copy(to: &mut [u8], from: &[u8])
-    requires { length to.old ≡ length from.now }
-    ensures { to.new ≡ from.now }
-{
-    let mut i: usize = 0;
-    while i < to.len() {
-        to[i] = from[i];
-        i += 1;
-    }
-}
-
-// Moves the bytes at `from` .. `to` up by k places, the last one first.
-pub fn move_bytes_up(w: &mut [u8], from: usize, to: usize, k: usize)
-    requires { (from ≤ to) × (to + k ≤ length w.old) }
-    ensures { MovedUp w.old w.new from to k }
-{
-    let mut i = to;
-    while from < i {
-        i -= 1;
-        w[i + k] = w[i];
-    }
-}
-
-// The same of words.
-pub fn move_words_up(w: &mut [u32], from: usize, to: usize, k: usize)
-    requires { (from ≤ to) × (to + k ≤ length w.old) }
-    ensures { MovedUp w.old w.new from to k }
-{
-    let mut i = to;
-    while from < i {
-        i -= 1;
-        w[i + k] = w[i];
-    }
-}
-
-// Moves the bytes at `from` .. `to` down by k places, the first one first.
-pub fn move_bytes_down(w: &mut [u8], from: usize, to: usize, k: usize)
-    requires { (k ≤ from) × (from ≤ to) × (to ≤ length w.old) }
-    ensures { MovedDown w.old w.new from to k }
-{
-    let mut i = from;
-    while i < to {
-        w[i - k] = w[i];
-        i += 1;
-    }
-}
-
-// The same of words.
-pub fn move_words_down(w: &mut [u32], from: usize, to: usize, k: usize)
-    requires { (k ≤ from) × (from ≤ to) × (to ≤ length w.old) }
-    ensures { MovedDown w.old w.new from to k }
-{
-    let mut i = from;
-    while i < to {
-        w[i - k] = w[i];
-        i += 1;
-    }
+    u32::from_le_bytes([b[i], b[i + 1], b[i + 2], b[i + 3]])
 }

@@ -2,155 +2,113 @@
 // are decimal without leading zeros; lists are joined by commas, `-` for none.
 #![tactic(auto)]
 
-ghost use Rattle.std.specs.Prelude.{◌≡◌};
-ghost use Rattle.line.specs.Spelling.{FirstWord, HexTaken, KeyTaken, DecimalTaken, NumberTaken, ManyTaken, ListTaken};
-ghost use Rattle.line.specs.Spelling.{nibble as spelt_nibble};
+ghost use Rattle.std.specs.Prelude.{◌≡◌, ◌≤◌, length};
+ghost use Rattle.line.specs.Spelling.{index_of};
+ghost use Rattle.line.specs.Spelling.{FirstWord, NibbleOf, HexTaken, KeyTaken, DecimalTaken, NumberTaken, ManyTaken, ListTaken};
 
-// The largest number of 64 bits.
-const LARGEST: u64 = 18446744073709551615;
-
-// How many bytes or numbers a word has given, at the front of the room lent for them.
-#[derive(Clone, Copy)]
-pub enum Taken {
-    Count(usize),
-    Bad,
-}
-
-#[derive(Clone, Copy)]
-pub enum Numeral {
-    Is(u64),
-    Bad,
+// Where the first b stands, or the length where none does.
+fn find(s: &[u8], b: u8) -> usize
+    ensures { (result ≡ index_of b s.now) × (result ≤ length s.now) }
+{
+    s.iter().position(|x| *x == b).unwrap_or(s.len())
 }
 
 // Where the first word ends: at a space, or with the line.
 pub fn word_end(s: &[u8]) -> usize
     ensures { FirstWord s.now result }
 {
-    label::find(s, 0, s.len(), b' ')
+    find(s, b' ')
 }
 
-// The value of a hex digit, 16 for any other byte.
-fn nibble(b: u8) -> u8
-    ensures { result ≡ spelt_nibble b }
+// The value of a hex digit.
+#[tactic(auto, unfolding(crate::specs::Spelling::nibble))]
+fn nibble(b: u8) -> Option<u8>
+    ensures { NibbleOf result b }
 {
-    if b < 48 {
-        return 16;
+    match b {
+        b'0'..=b'9' => Some(b - b'0'),
+        b'a'..=b'f' => Some(b - b'a' + 10),
+        _ => None,
     }
-    if b < 58 {
-        return b - 48;
-    }
-    if b < 97 {
-        return 16;
-    }
-    if b < 103 {
-        return b - 87;
-    }
-    16
 }
 
-// Two hex digits for each byte.
-fn hex(s: &[u8], out: &mut [u8]) -> Taken
+// Two hex digits for each byte, at the front of the room; gives how many bytes they spell.
+fn hex(s: &[u8], out: &mut [u8]) -> Option<usize>
     ensures { HexTaken result s.now out.new }
 {
     let n = s.len() / 2;
-    if 2 * n < s.len() {
-        return Taken::Bad;
+    if s.len() % 2 > 0 || out.len() < n {
+        return None;
     }
-    if out.len() < n {
-        return Taken::Bad;
-    }
-    let mut i: usize = 0;
-    while i < n {
-        let high = nibble(s[2 * i]);
-        let low = nibble(s[2 * i + 1]);
-        if high > 15 {
-            return Taken::Bad;
-        }
-        if low > 15 {
-            return Taken::Bad;
-        }
+    for i in 0..n {
+        let high = nibble(s[2 * i])?;
+        let low = nibble(s[2 * i + 1])?;
         out[i] = 16 * high + low;
-        i += 1;
     }
-    Taken::Count(n)
+    Some(n)
 }
 
-// A key, a prefix or the bytes of an image.
-pub fn key(s: &[u8], out: &mut [u8]) -> Taken
+// A key, a prefix or the bytes of an image: how many bytes the word has given, at the front of the room lent for them.
+pub fn key(s: &[u8], out: &mut [u8]) -> Option<usize>
     ensures { KeyTaken result s.now out.new }
 {
-    if check::same(s, b"-") {
-        return Taken::Count(0);
+    match s {
+        b"-" => Some(0),
+        [] => None,
+        _ => hex(s, out),
     }
-    if s.len() == 0 {
-        return Taken::Bad;
-    }
-    hex(s, out)
 }
 
-// The digits of a number of 64 bits. Whether 10 * n + d fits is seen before it is computed.
-fn digits(s: &[u8]) -> Numeral
+// The digits of a number of 64 bits.
+fn digits(s: &[u8]) -> Option<u64>
     ensures { DecimalTaken result s.now }
 {
     let mut n: u64 = 0;
-    let mut i: usize = 0;
-    while i < s.len() {
-        let d = nibble(s[i]) as u64;
+    for b in s {
+        let d = nibble(*b)?;
         if d > 9 {
-            return Numeral::Bad;
+            return None;
         }
-        if n > (LARGEST - d) / 10 {
-            return Numeral::Bad;
-        }
-        n = 10 * n + d;
-        i += 1;
+        n = n.checked_mul(10)?.checked_add(u64::from(d))?;
     }
-    Numeral::Is(n)
+    Some(n)
 }
 
 // A number without leading zeros.
-pub fn number(s: &[u8]) -> Numeral
+pub fn number(s: &[u8]) -> Option<u64>
     ensures { NumberTaken result s.now }
 {
-    if s.len() == 0 {
-        return Numeral::Bad;
+    if s.is_empty() {
+        return None;
     }
-    if s.len() == 1 {
-        return digits(s);
-    }
-    if s[0] == b'0' {
-        return Numeral::Bad;
+    if s.len() > 1 && s[0] == b'0' {
+        return None;
     }
     digits(s)
 }
 
 // Numbers joined by commas.
-fn many(s: &[u8], out: &mut [u64]) -> Taken
+fn many(s: &[u8], out: &mut [u64]) -> Option<usize>
     ensures { ManyTaken result s.now out.new }
 {
-    let mut at: usize = 0;
-    let mut k: usize = 0;
-    while k < out.len() {
-        let e = label::find(s, at, s.len(), b',');
-        let Numeral::Is(n) = number(&s[at..e]) else {
-            return Taken::Bad;
+    let mut rest = s;
+    for k in 0..out.len() {
+        let (word, behind) = rest.split_at(find(rest, b','));
+        out[k] = number(word)?;
+        let Some((_, more)) = behind.split_first() else {
+            return Some(k + 1);
         };
-        out[k] = n;
-        k += 1;
-        if e == s.len() {
-            return Taken::Count(k);
-        }
-        at = e + 1;
+        rest = more;
     }
-    Taken::Bad
+    None
 }
 
-// The numbers of an image.
-pub fn numbers(s: &[u8], out: &mut [u64]) -> Taken
+// The numbers of an image: how many the word has given, at the front of the room lent for them.
+pub fn numbers(s: &[u8], out: &mut [u64]) -> Option<usize>
     ensures { ListTaken result s.now out.new }
 {
-    if check::same(s, b"-") {
-        return Taken::Count(0);
+    match s {
+        b"-" => Some(0),
+        _ => many(s, out),
     }
-    many(s, out)
 }

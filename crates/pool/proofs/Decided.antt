@@ -4,13 +4,13 @@ use mathlib.Core.Path.{◌≡◌, refl, sym, ap, ◌∙◌}
 use mathlib.Core.Bool.{Bool, true, false}
 use mathlib.Core.Option.{Option}
 use Prim.Native.Nat.{ℕ}
-use Rattle.tree.specs.Told.{Told, emptied_told}
+use Rattle.std.specs.Prelude.{Some, None, ⊤}
+use Rattle.std.specs.Prelude.{Option as Maybe}
+use Rattle.tree.specs.Told.{Told, Answer, bare_told}
 use Rattle.tree.specs.Calls.{Outcome, refuses, leaves, make_call, clear_call}
-use Rattle.tree.specs.declared.Emptied.{Emptied}
 use Rattle.tree.specs.declared.Counted.{Counted}
 use Rattle.tree.proofs.Judge.{never}
-use Rattle.tree.proofs.OneAnswer.{emptied_one, counted_one}
-use Rattle.pool.specs.declared.Sized.{Sized}
+use Rattle.tree.proofs.OneAnswer.{bare_one, counted_one}
 use Rattle.pool.specs.Lent.{Lent, tree_in, size_in}
 use Rattle.pool.specs.Rule.{Says}
 use Rattle.pool.specs.Fields.{sized_of}
@@ -54,13 +54,13 @@ answer_decides told one was is is' o a b p q =
     let e = outcome_decides was is is' (told a) (told b) o p q in
     record { answer = one a b e.told; tree = e.tree; slots = e.slots; kept = e.kept }
 
-pub make_determined : (was is is' : Lent) (a b : Emptied) → MakeAllows a was is → MakeAllows b was is' → Decided emptied_told a b is is'
-make_determined was is is' = answer_decides emptied_told emptied_one was is is' (make_call (size_in was))
+pub make_determined : (was is is' : Lent) (a b : Answer ⊤) → MakeAllows a was is → MakeAllows b was is' → Decided bare_told a b is is'
+make_determined was is is' = answer_decides bare_told bare_one was is is' (make_call (size_in was))
 
-pub clear_determined : (was is is' : Lent) (a b : Emptied) → ClearAllows a was is → ClearAllows b was is' → Decided emptied_told a b is is'
-clear_determined was is is' = answer_decides emptied_told emptied_one was is is' (clear_call (tree_in was))
+pub clear_determined : (was is is' : Lent) (a b : Answer ⊤) → ClearAllows a was is → ClearAllows b was is' → Decided bare_told a b is is'
+clear_determined was is is' = answer_decides bare_told bare_one was is is' (clear_call (tree_in was))
 
-pub counts_determined : (was : Lent) (a b : Counted) → CountsAllows a was → CountsAllows b was → a ≡ b
+pub counts_determined : (was : Lent) (a b : Answer Counted) → CountsAllows a was → CountsAllows b was → a ≡ b
 counts_determined was a b p q = counted_one a b (p ∙ sym q)
 
 -- A test says one thing.
@@ -70,8 +70,8 @@ says_one true false p q = absurd (q.no refl (p.yes refl))
 says_one false true p q = absurd (p.no refl (q.yes refl))
 says_one false false p q = refl
 
-pub slots_determined : {o : Option ℕ} (a b : Sized) → sized_of a ≡ o → sized_of b ≡ o → a ≡ b
-slots_determined (Sized.Slots m) (Sized.Slots n) p q = ap Sized.Slots (cc)
-slots_determined (Sized.Slots m) Sized.Wrong p q = never (cc)
-slots_determined Sized.Wrong (Sized.Slots n) p q = never (cc)
-slots_determined Sized.Wrong Sized.Wrong p q = refl
+pub slots_determined : {o : Option ℕ} (a b : Maybe ℕ) → sized_of a ≡ o → sized_of b ≡ o → a ≡ b
+slots_determined (Some m) (Some n) p q = ap Some (cc)
+slots_determined (Some m) None p q = never (cc)
+slots_determined None (Some n) p q = never (cc)
+slots_determined None None p q = refl

@@ -4,3 +4,4 @@ pub mod Free
 pub mod Rule
 pub mod Post
 pub mod Fields
+pub mod Whole

@@ -1,11 +1,10 @@
 -- What a changing call leaves in the two lent slices, ws and bs before, vs and cs after; and the contracts of make, clear and
 -- counts.
-use Rattle.std.specs.Prelude.{◌≡◌, List, ℕ}
+use Rattle.std.specs.Prelude.{◌≡◌, List, ℕ, ⊤}
 use Rattle.std.proofs.Math.Option.{some}
 use Rattle.tree.specs.Tree.{Tree}
-use Rattle.tree.specs.Told.{Told, done, emptied_told, counted_told}
+use Rattle.tree.specs.Told.{Told, done, Answer, bare_told, counted_told}
 use Rattle.tree.specs.Calls.{Outcome, refuses, leaves, make_call, clear_call, counts_call}
-use Rattle.tree.specs.declared.Emptied.{Emptied}
 use Rattle.tree.specs.declared.Counted.{Counted}
 use Rattle.pool.specs.Pool.{pool_tree, slots_of}
 use Rattle.pool.specs.Lent.{Lent, tree_in, size_in}
@@ -31,11 +30,11 @@ abbrev pub Does : Outcome → Told → (was is : Lent) → Type 0
 Does o told was is = Meets o told was.words was.labels is.words is.labels
 
 -- What the public calls of this crate allow: an answer, and the slices that they leave
-abbrev pub MakeAllows : Emptied → (was is : Lent) → Type 0
-MakeAllows r was is = Does (make_call (size_in was)) (emptied_told r) was is
+abbrev pub MakeAllows : Answer ⊤ → (was is : Lent) → Type 0
+MakeAllows r was is = Does (make_call (size_in was)) (bare_told r) was is
 
-abbrev pub ClearAllows : Emptied → (was is : Lent) → Type 0
-ClearAllows r was is = Does (clear_call (tree_in was)) (emptied_told r) was is
+abbrev pub ClearAllows : Answer ⊤ → (was is : Lent) → Type 0
+ClearAllows r was is = Does (clear_call (tree_in was)) (bare_told r) was is
 
-abbrev pub CountsAllows : Counted → Lent → Type 0
+abbrev pub CountsAllows : Answer Counted → Lent → Type 0
 CountsAllows r was = counted_told r ≡ counts_call (tree_in was)

@@ -3,6 +3,8 @@
 
 ghost use Rattle.std.specs.Prelude.{◌≡◌, ℕ, ◌+◌, ◌*◌, ◌≤◌, ◌<◌, length};
 ghost use Rattle.slots.specs.Layout.{words_for, WordsIn, has_of};
+ghost use Rattle.tree.specs.Told.{Unless};
+ghost use Rattle.tree.specs.declared.Refusal.TheVariants.{NotPool};
 ghost use Rattle.pool.specs.Pool.{slots_of};
 ghost use Rattle.pool.specs.Rule.{Says, Within, Child, Children, NodeAt, Lengths, PoolRule};
 ghost use Rattle.pool.specs.Lent.{lent};
@@ -11,33 +13,26 @@ ghost use Rattle.pool.specs.Fields.{sized_of, has_sum, emptied};
 
 use slots::put::{Head, put_words};
 use slots::{HEAD_WORDS, LABEL_ROOM, SLOT_WORDS};
-use tree::{Counted, Emptied, KEY_MAX, LABEL_MAX, RuleNo, SLOTS_MAX, Slot};
+use tree::{Answer, Counted, KEY_MAX, LABEL_MAX, Refusal, SLOTS_MAX, Slot};
 
 // How many slots two slices have, if their lengths are those of a pool.
-#[derive(Clone, Copy)]
-pub enum Sized {
-    Slots(usize),
-    Wrong,
-}
-
-// The number of slots by the lengths of the two slices.
-pub fn slots_of(labels: &[u8], words: &[u32]) -> Sized
+pub fn slots_of(labels: &[u8], words: &[u32]) -> Option<usize>
     ensures { sized_of result ≡ slots_of words.now labels.now }
 {
     let slots = slots::slots_in(labels);
     if slots < 1 {
-        return Sized::Wrong;
+        return None;
     }
     if slots > SLOTS_MAX {
-        return Sized::Wrong;
+        return None;
     }
     if labels.len() != LABEL_ROOM * slots {
-        return Sized::Wrong;
+        return None;
     }
     if words.len() != SLOT_WORDS * slots + HEAD_WORDS {
-        return Sized::Wrong;
+        return None;
     }
-    Sized::Slots(slots)
+    Some(slots)
 }
 
 // Whether slot c can be the child that comes next.
@@ -132,12 +127,10 @@ fn tree_ok(labels: &[u8], words: &[u32], slots: usize) -> bool
     if slots::span_at(words, Slot(0)) != n {
         return false;
     }
-    let mut i = 0;
-    while i < n {
+    for i in 0..n {
         if !node_ok(labels, words, n, Slot(i)) {
             return false;
         }
-        i += 1;
     }
     true
 }
@@ -147,9 +140,19 @@ pub fn is_pool(labels: &[u8], words: &[u32]) -> bool
     ensures { Says result (PoolRule words.now labels.now) }
 {
     match slots_of(labels, words) {
-        Sized::Slots(slots) => tree_ok(labels, words, slots),
-        Sized::Wrong => false,
+        Some(slots) => tree_ok(labels, words, slots),
+        None => false,
     }
+}
+
+// The full test as the calls make it, which go on only in a pool.
+pub fn tested(labels: &[u8], words: &[u32]) -> Answer<()>
+    ensures { Unless NotPool (PoolRule words.now labels.now) result }
+{
+    if !is_pool(labels, words) {
+        return Err(Refusal::NotPool);
+    }
+    Ok(())
 }
 
 // The empty tree: the root alone, without a number.
@@ -161,33 +164,28 @@ pub fn write_empty(words: &mut [u32])
     let root = Head {
         start: 0,
         len: 0,
-        has: 0,
-        number: RuleNo(0),
+        stored: None,
         span: 1,
     };
     put_words(words, Slot(0), root);
 }
 
 // Makes a fresh pool. Only the lengths are tested; old contents don't matter.
-pub fn make(labels: &mut [u8], words: &mut [u32]) -> Emptied
+pub fn make(labels: &mut [u8], words: &mut [u32]) -> Answer<()>
     ensures { MakeAllows result (lent labels.old words.old) (lent labels.new words.new) }
 {
-    let Sized::Slots(_) = slots_of(labels, words) else {
-        return Emptied::NotPool;
-    };
+    slots_of(labels, words).ok_or(Refusal::NotPool)?;
     write_empty(words);
-    Emptied::Done
+    Ok(())
 }
 
 // Leaves the empty tree in a pool.
-pub fn clear(labels: &mut [u8], words: &mut [u32]) -> Emptied
+pub fn clear(labels: &mut [u8], words: &mut [u32]) -> Answer<()>
     ensures { ClearAllows result (lent labels.old words.old) (lent labels.new words.new) }
 {
-    if !is_pool(labels, words) {
-        return Emptied::NotPool;
-    }
+    tested(labels, words)?;
     write_empty(words);
-    Emptied::Done
+    Ok(())
 }
 
 // How many of the first n slots have a number.
@@ -196,21 +194,22 @@ pub fn keys_in(words: &[u32], n: usize) -> usize
     ensures { result ≡ has_sum words.now n }
 {
     let mut keys: usize = 0;
-    let mut i: usize = 0;
-    while i < n {
+    for i in 0..n {
         keys += slots::has_at(words, Slot(i));
-        i += 1;
     }
     keys
 }
 
 // Keys and nodes, the root included.
-pub fn counts(labels: &[u8], words: &[u32]) -> Counted
+pub fn counts(labels: &[u8], words: &[u32]) -> Answer<Counted>
     ensures { CountsAllows result (lent labels.now words.now) }
 {
-    if !is_pool(labels, words) {
-        return Counted::NotPool;
-    }
-    let n = slots::nodes_in(words);
-    Counted::Counts(keys_in(words, n), n)
+    tested(labels, words)?;
+    let nodes = slots::nodes_in(words);
+    let keys = keys_in(words, nodes);
+    Ok(Counted { keys, nodes })
 }
+
+mod whole;
+
+pub use whole::Pool;

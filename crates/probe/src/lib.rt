@@ -5,28 +5,31 @@
 ghost use Rattle.std.specs.Prelude.{◌≡◌};
 ghost use Rattle.tree.specs.Key.{common};
 ghost use Rattle.tree.specs.Calls.{get_call};
-ghost use Rattle.pool.specs.Pool.{pool_tree};
+ghost use Rattle.pool.specs.Lent.{lent, tree_in};
+ghost use Rattle.search.specs.Post.{GetAllows};
 
-use tree::KEY_MAX;
+use pool::Pool;
+use tree::{Answer, Got, Key};
 
 // One get with the test, and then so many without it.
-#[unsafe(no_mangle)]
-pub extern "C" fn probe_gets(labels: &[u8], words: &[u32], key: &[u8], times: usize) -> u32
-    ensures { result ≡ (get_call (pool_tree words.now labels.now) key.now).number }
+fn gets(labels: &[u8], words: &[u32], key: &[u8], times: usize) -> Answer<Got>
+    ensures { GetAllows key.now result (lent labels.now words.now) }
 {
-    if !pool::is_pool(labels, words) {
-        return 1;
-    }
-    if key.len() > KEY_MAX {
-        return 2;
-    }
-    let mut last = search::get_in(labels, words, key).number();
-    let mut i: usize = 0;
-    while i < times {
-        last = search::get_in(labels, words, key).number();
-        i += 1;
+    let pool = Pool::new(labels, words)?;
+    let tested = Key::new(key)?;
+    let mut last = search::get_in(&pool, &tested);
+    for _ in 0..times {
+        last = search::get_in(&pool, &tested);
     }
     last
+}
+
+// The number of the last.
+#[unsafe(no_mangle)]
+pub extern "C" fn probe_gets(labels: &[u8], words: &[u32], key: &[u8], times: usize) -> u32
+    ensures { result ≡ (get_call (tree_in (lent labels.now words.now)) key.now).number }
+{
+    tree::number(&gets(labels, words, key, times))
 }
 
 // How many leading bytes two runs share, as the store counts them.

@@ -1,5 +1,6 @@
 -- No answer depends on what docs/POOL.md calls free: pools that agree in the rest get the same answers, and the same trees and
 -- outputs are left. Of a pool that is made, read into or split into only its size counts. Assumes nothing.
+use Rattle.std.specs.Prelude.{⊤}
 use mathlib.Core.Path.{◌≡◌, refl, sym, ap, ◌∙◌}
 use mathlib.Core.List.{List}
 use mathlib.Core.Option.{Option, none, some}
@@ -7,18 +8,15 @@ use Prim.Native.Nat.{ℕ}
 use native.Mathlib.Omega.{arith}
 use Rattle.tree.specs.Key.{Key, Bytes}
 use Rattle.tree.specs.Tree.{Tree}
-use Rattle.tree.specs.Told.{Told, emptied_told, inserted_told, got_told, divided_told, loaded_told}
+use Rattle.tree.specs.Told.{Answer, Told, bare_told, inserted_told, got_told}
 use Rattle.tree.specs.Calls.{Outcome, refuses, leaves, SplitOutcome, refuses_both, leaves_both, make_call, clear_call, counts_call, get_call, longest_call, shared_call, insert_call, remove_call, split_call, read_call}
-use Rattle.tree.specs.declared.Emptied.{Emptied}
 use Rattle.tree.specs.declared.Counted.{Counted}
 use Rattle.tree.specs.declared.Got.{Got}
 use Rattle.tree.specs.declared.Prefixed.{Prefixed}
 use Rattle.tree.specs.declared.Sharing.{Sharing}
 use Rattle.tree.specs.declared.Inserted.{Inserted}
-use Rattle.tree.specs.declared.Divided.{Divided}
 use Rattle.tree.specs.declared.Written.{Written}
-use Rattle.tree.specs.declared.Loaded.{Loaded}
-use Rattle.tree.proofs.OneAnswer.{emptied_one, counted_one, got_one, prefixed_one, sharing_one, inserted_one, divided_one, loaded_one}
+use Rattle.tree.proofs.OneAnswer.{bare_one, counted_one, got_one, prefixed_one, sharing_one, inserted_one}
 use Rattle.tree.proofs.Refusals.{Honest, HonestBoth, make_honest, split_honest, read_honest}
 use Rattle.pool.specs.Lent.{Lent, tree_in, size_in, room_in}
 use Rattle.pool.specs.Free.{SameSlots}
@@ -56,23 +54,23 @@ module _ (l m : Lent) (by : Bytes l.labels) (by' : Bytes m.labels) (h : SameSlot
   tree_is = same-tree by by' h
 
   -- The calls that change nothing
-  pub counts_free : (a b : Counted) → CountsAllows a l → CountsAllows b m → a ≡ b
+  pub counts_free : (a b : Answer Counted) → CountsAllows a l → CountsAllows b m → a ≡ b
   counts_free a b p q = counted_one a b (p ∙ ap counts_call tree_is ∙ sym q)
 
   module _ (key : Key) where
-    pub get_free : (a b : Got) → GetAllows key a l → GetAllows key b m → a ≡ b
+    pub get_free : (a b : Answer Got) → GetAllows key a l → GetAllows key b m → a ≡ b
     get_free a b p q = got_one a b (p ∙ ap (λ (o : Option Tree). get_call o key) tree_is ∙ sym q)
 
-    pub longest_free : (a b : Prefixed) → LongestAllows key a l → LongestAllows key b m → a ≡ b
+    pub longest_free : (a b : Answer Prefixed) → LongestAllows key a l → LongestAllows key b m → a ≡ b
     longest_free a b p q = prefixed_one a b (p ∙ ap (λ (o : Option Tree). longest_call o key) tree_is ∙ sym q)
 
-    pub shared_free : (a b : Sharing) → SharedAllows key a l → SharedAllows key b m → a ≡ b
+    pub shared_free : (a b : Answer Sharing) → SharedAllows key a l → SharedAllows key b m → a ≡ b
     shared_free a b p q = sharing_one a b (p ∙ ap (λ (o : Option Tree). shared_call o key) tree_is ∙ sym q)
 
   pub step_free : (w : Walk) (r s : Step) (out a b : List ℕ) → StepAllows w r l out a → StepAllows w s m out b → Same r s a b
   step_free w r s out a b p q = step_determined p (rw tree_is q)
 
-  pub write_free : (r s : Written) {tree numbers a b c d : List ℕ} → WriteAllows r l tree numbers a b → WriteAllows s m tree numbers c d → Determined r s a b c d
+  pub write_free : (r s : Answer Written) {tree numbers a b c d : List ℕ} → WriteAllows r l tree numbers a b → WriteAllows s m tree numbers c d → Determined r s a b c d
   write_free r s p q = write_determined l r s p (rw tree_is q)
 
   -- The calls that change a pool
@@ -82,14 +80,14 @@ module _ (l m : Lent) (by : Bytes l.labels) (by' : Bytes m.labels) (h : SameSlot
         let e = outcome_alike l m is is' (told a) (told b) o tree_is h.size p q in
         record { answer = one a b e.told; tree = e.tree; size = e.size }
 
-    pub clear_free : (a b : Emptied) → ClearAllows a l is → ClearAllows b m is' → SameDone a b is is'
-    clear_free a b p q = done_alike emptied_told emptied_one (clear_call (tree_in l)) a b p (rw tree_is q)
+    pub clear_free : (a b : Answer ⊤) → ClearAllows a l is → ClearAllows b m is' → SameDone a b is is'
+    clear_free a b p q = done_alike bare_told bare_one (clear_call (tree_in l)) a b p (rw tree_is q)
 
-    pub remove_free : (key : Key) (a b : Got) → RemoveAllows key a l is → RemoveAllows key b m is' → SameDone a b is is'
+    pub remove_free : (key : Key) (a b : Answer Got) → RemoveAllows key a l is → RemoveAllows key b m is' → SameDone a b is is'
     remove_free key a b p q = done_alike got_told got_one (remove_call (tree_in l) key) a b p (rw tree_is q)
 
     -- Insert also goes by the number of slots, where there is a tree.
-    pub insert_free : (key : Key) (number : ℕ) (a b : Inserted) → InsertAllows key number a l is → InsertAllows key number b m is' → SameDone a b is is'
+    pub insert_free : (key : Key) (number : ℕ) (a b : Answer Inserted) → InsertAllows key number a l is → InsertAllows key number b m is' → SameDone a b is is'
     unfolding insert_call
     insert_free key number a b p q = go (tree_in l) refl
       where
@@ -113,31 +111,31 @@ module _ (l m is is' : Lent) (size : size_in l ≡ size_in m) where
       record { answer = one a b (p.said ∙ sym q.said); tree = λ e. absurd (h (ap (λ (z : Told). z.number) (sym p.said) ∙ e)) }
   fresh_alike told one (leaves vs t) h a b p q = record { answer = one a b (p.said ∙ sym q.said); tree = λ e. p.tree ∙ sym q.tree }
 
-  pub make_free : (a b : Emptied) → MakeAllows a l is → MakeAllows b m is' → SameFresh emptied_told a b is is'
-  make_free a b p q = fresh_alike emptied_told emptied_one (make_call (size_in l)) (make_honest (size_in l)) a b p (rw size q)
+  pub make_free : (a b : Answer ⊤) → MakeAllows a l is → MakeAllows b m is' → SameFresh bare_told a b is is'
+  make_free a b p q = fresh_alike bare_told bare_one (make_call (size_in l)) (make_honest (size_in l)) a b p (rw size q)
 
-  pub read_free : (s ns : List ℕ) (a b : Loaded) → ReadAllows s ns a l is → ReadAllows s ns b m is' → SameFresh loaded_told a b is is'
-  read_free s ns a b p q = fresh_alike loaded_told loaded_one (read_call (size_in l) s ns) (read_honest (size_in l) s ns) a b p (rw size q)
+  pub read_free : (s ns : List ℕ) (a b : Answer ⊤) → ReadAllows s ns a l is → ReadAllows s ns b m is' → SameFresh bare_told a b is is'
+  read_free s ns a b p q = fresh_alike bare_told bare_one (read_call (size_in l) s ns) (read_honest (size_in l) s ns) a b p (rw size q)
 
 -- Split: the first pool by its tree, the second by its size
-pub record SameHalves (a b : Divided) (is is₂ is' is₂' : Lent) : Type 0 where
+pub record SameHalves (a b : Answer ⊤) (is is₂ is' is₂' : Lent) : Type 0 where
   pub answer : a ≡ b
   pub left : tree_in is ≡ tree_in is'
-  pub detached : Accepted (divided_told a) → tree_in is₂ ≡ tree_in is₂'
+  pub detached : Accepted (bare_told a) → tree_in is₂ ≡ tree_in is₂'
 
 module _ (l m : Lent) (by : Bytes l.labels) (by' : Bytes m.labels) (h : SameSlots l m) (l₂ m₂ : Lent) (size : size_in l₂ ≡ size_in m₂) where
-  halves_alike : (is is₂ is' is₂' : Lent) (o : SplitOutcome) → HonestBoth o → (a b : Divided) → DoesBoth o (divided_told a) l l₂ is is₂ → DoesBoth o (divided_told b) m m₂ is' is₂'
+  halves_alike : (is is₂ is' is₂' : Lent) (o : SplitOutcome) → HonestBoth o → (a b : Answer ⊤) → DoesBoth o (bare_told a) l l₂ is is₂ → DoesBoth o (bare_told b) m m₂ is' is₂'
       → SameHalves a b is is₂ is' is₂'
   halves_alike is is₂ is' is₂' (refuses_both x) i a b p q =
       let same = same-tree by by' h in
       record {
-        answer = divided_one a b (p.said ∙ sym q.said);
+        answer = bare_one a b (p.said ∙ sym q.said);
         left = cc (p.words, p.labels, q.words, q.labels);
         detached = λ e. absurd (i (ap (λ (z : Told). z.number) (sym p.said) ∙ e));
       }
   halves_alike is is₂ is' is₂' (leaves_both d u) i a b p q =
-      record { answer = divided_one a b (p.said ∙ sym q.said); left = p.tree ∙ sym q.tree; detached = λ e. p.tree₂ ∙ sym q.tree₂ }
+      record { answer = bare_one a b (p.said ∙ sym q.said); left = p.tree ∙ sym q.tree; detached = λ e. p.tree₂ ∙ sym q.tree₂ }
 
-  pub split_free : (is is₂ is' is₂' : Lent) (prefix : Key) (a b : Divided) → SplitAllows prefix a l l₂ is is₂ → SplitAllows prefix b m m₂ is' is₂' → SameHalves a b is is₂ is' is₂'
+  pub split_free : (is is₂ is' is₂' : Lent) (prefix : Key) (a b : Answer ⊤) → SplitAllows prefix a l l₂ is is₂ → SplitAllows prefix b m m₂ is' is₂' → SameHalves a b is is₂ is' is₂'
   split_free is is₂ is' is₂' prefix a b p q =
       halves_alike is is₂ is' is₂' (split_call (tree_in l) (size_in l₂) prefix) (split_honest (tree_in l) (size_in l₂) prefix) a b p (rw (same-tree by by' h, size) q)

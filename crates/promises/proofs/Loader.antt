@@ -1,6 +1,7 @@
 -- The loader, of the calls: what write left at the fronts of its outputs is read back as the same tree, into any pool
 -- in which it fits; what read accepted is written again as the same numbers and the same bytes, cleared of the
 -- allocated bits that stood alone; and those bits change nothing else. Assumes nothing.
+use Rattle.std.specs.Prelude.{⊤, Ok}
 use mathlib.Core.Path.{◌≡◌, refl, sym, ap, ◌∙◌}
 use mathlib.Core.Logic.{◌↔◌}
 use mathlib.Core.List.{List, [], ◌∷◌}
@@ -12,11 +13,10 @@ use Rattle.tree.specs.Key.{Bytes}
 use Rattle.tree.specs.Tree.{Tree, WellFormed, nodes_t}
 use Rattle.tree.specs.Image.{image_t, numbers_t}
 use Rattle.tree.specs.Cleared.{cleared}
-use Rattle.tree.specs.Told.{Told, done, written_told, loaded_told}
+use Rattle.tree.specs.Told.{Answer, Told, done, written_told, bare_told}
 use Rattle.tree.specs.Calls.{leaves, read_told, read_call}
 use Rattle.tree.specs.declared.Written.{Written}
-use Rattle.tree.specs.declared.Loaded.{Loaded}
-use Rattle.tree.proofs.OneAnswer.{loaded_one}
+use Rattle.tree.proofs.OneAnswer.{bare_one}
 use Rattle.tree.proofs.LoneBits.{read_cleared}
 use Rattle.tree.proofs.Loader.{read_image, read_accepts}
 use Rattle.pool.specs.Lent.{Lent, tree_in, size_in}
@@ -39,19 +39,19 @@ unfolding read_call
 call_cleared none s ns = refl
 call_cleared (some n) s ns = rw (read_cleared s ns n)
 
-pub read_alike : (s ns : List ℕ) (q : Loaded) (was is : Lent)
+pub read_alike : (s ns : List ℕ) (q : Answer ⊤) (was is : Lent)
     → ReadAllows s ns q was is ↔ ReadAllows (cleared s) ns q was is
 read_alike s ns q was is =
     let e = call_cleared (size_in was) s ns in
     (λ d. rw e at d, λ d. rw e d)
 
-pub record ReadBack (t : Tree) (q : Loaded) (is : Lent) : Type 0 where
-  pub answer : q ≡ Loaded.Done
+pub record ReadBack (t : Tree) (q : Answer ⊤) (is : Lent) : Type 0 where
+  pub answer : q ≡ Ok tt
   pub left : tree_in is ≡ some t
 
 -- A slice of bytes holds bytes, and b and n are the lengths that write told.
-pub write_read : (l : Lent) → Bytes l.labels → (t : Tree) → tree_in l ≡ some t → (r : Written) (tree numbers tree' numbers' : List ℕ) → WriteAllows r l tree numbers tree' numbers'
-    → (b n : ℕ) → written_told r ≡ done (b ∷ n ∷ []) → (q : Loaded) (was is : Lent) (slots : ℕ) → size_in was ≡ some slots → nodes_t t ≤ slots
+pub write_read : (l : Lent) → Bytes l.labels → (t : Tree) → tree_in l ≡ some t → (r : Answer Written) (tree numbers tree' numbers' : List ℕ) → WriteAllows r l tree numbers tree' numbers'
+    → (b n : ℕ) → written_told r ≡ done (b ∷ n ∷ []) → (q : Answer ⊤) (was is : Lent) (slots : ℕ) → size_in was ≡ some slots → nodes_t t ≤ slots
     → ReadAllows (take b tree') (take n numbers') q was is → ReadBack t q is
 write_read l by t held r tree numbers tree' numbers' w b n told q was is slots sized fits d =
     let x = write_leaves l r tree numbers tree' numbers' w (ap (λ (z : Told). z.number) told) in
@@ -62,19 +62,19 @@ write_read l by t held r tree numbers tree' numbers' w b n told q was is slots s
     let nums : take n numbers' ≡ numbers_t t = rw (x.nums, same) (take_at (numbers_t t) _ n (cc)) in
     let wf = (tree-holds l.words l.labels by t held).wf in
     let o : read_call (size_in was) (take b tree') (take n numbers') ≡ leaves [] t = rw (sized, bytes, nums) (read_own t slots wf fits) in
-    let left : Does (leaves [] t) (loaded_told q) was is = rw o at d in
-    record { answer = loaded_one q Loaded.Done left.said; left = left.tree }
+    let left : Does (leaves [] t) (bare_told q) was is = rw o at d in
+    record { answer = bare_one q (Ok tt) left.said; left = left.tree }
 
-pub record WroteBack (s ns : List ℕ) (r : Written) (tree numbers tree' numbers' : List ℕ) : Type 0 where
+pub record WroteBack (s ns : List ℕ) (r : Answer Written) (tree numbers tree' numbers' : List ℕ) : Type 0 where
   pub lengths : written_told r ≡ done (length s ∷ length ns ∷ [])
   pub bytes : tree' ≡ front s tree
   pub nums : numbers' ≡ front ns numbers
 
-pub read_write : (s ns : List ℕ) → Bytes s → (q : Loaded) (was is : Lent) → ReadAllows s ns q was is → Accepted (loaded_told q)
-    → (r : Written) (tree numbers tree' numbers' : List ℕ) → WriteAllows r is tree numbers tree' numbers'
+pub read_write : (s ns : List ℕ) → Bytes s → (q : Answer ⊤) (was is : Lent) → ReadAllows s ns q was is → Accepted (bare_told q)
+    → (r : Answer Written) (tree numbers tree' numbers' : List ℕ) → WriteAllows r is tree numbers tree' numbers'
     → Accepted (written_told r) → WroteBack (cleared s) ns r tree numbers tree' numbers'
 read_write s ns by q was is d e r tree numbers tree' numbers' w f =
-    let x = read_leaves s ns (loaded_told q) was is d e in
+    let x = read_leaves s ns (bare_told q) was is d e in
     let loads = read_accepts s by ns x.size x.tree x.read in
     let y = write_leaves is r tree numbers tree' numbers' w f in
     let same : y.whole ≡ x.tree = cc (y.held, x.left) in

@@ -11,7 +11,7 @@ use lib.ListN.{length}
 use Rattle.tree.specs.Key.{Key, Bytes}
 use Rattle.tree.specs.Tree.{Tree}
 use Rattle.tree.specs.Search.{looked_t}
-use Rattle.tree.specs.Told.{Told, refusal, got_told, inserted_told, prefixed_told, sharing_told}
+use Rattle.tree.specs.Told.{Answer, Told, refusal, got_told, inserted_told, prefixed_told, sharing_told}
 use Rattle.tree.specs.Calls.{Outcome, refuses, leaves, outcome_told}
 use Rattle.tree.specs.Calls.{get_call, longest_call, shared_call, insert_call, remove_call}
 use Rattle.tree.specs.declared.Got.{Got}
@@ -60,15 +60,15 @@ module _ (was : Lent) (by : Bytes was.labels) (key : Key) where
       go none q = rw none_is (few-last key 0 _ (omega arith) untold_1)
       go (some t) q = few-last key _ _ (looked_bound t (tree-holds was.words was.labels by t q).wf key) (of t)
 
-  pub get_looks : (r : Got) → GetAllows key r was → LooksFew key (got_told r)
+  pub get_looks : (r : Answer Got) → GetAllows key r was → LooksFew key (got_told r)
   unfolding get_call
   get_looks r = looks_few (λ o. get_call o key) refl (λ t. get_last t key) (got_told r)
 
-  pub longest_looks : (r : Prefixed) → LongestAllows key r was → LooksFew key (prefixed_told r)
+  pub longest_looks : (r : Answer Prefixed) → LongestAllows key r was → LooksFew key (prefixed_told r)
   unfolding longest_call
   longest_looks r = looks_few (λ o. longest_call o key) refl (λ t. longest-last t key) (prefixed_told r)
 
-  pub shared_looks : (r : Sharing) → SharedAllows key r was → LooksFew key (sharing_told r)
+  pub shared_looks : (r : Answer Sharing) → SharedAllows key r was → LooksFew key (sharing_told r)
   unfolding shared_call
   shared_looks r = looks_few (λ o. shared_call o key) refl (λ t. shared_last t key) (sharing_told r)
 
@@ -79,13 +79,13 @@ module _ (was : Lent) (by : Bytes was.labels) (key : Key) where
   does_few call none_is of told is d =
       looks_few (λ o. outcome_told (call o)) none_is of told (does_tell (call (tree_in was)) told was is d)
 
-  pub insert_looks : (number : ℕ) (r : Inserted) (is : Lent) → InsertAllows key number r was is
+  pub insert_looks : (number : ℕ) (r : Answer Inserted) (is : Lent) → InsertAllows key number r was is
       → LooksFew key (inserted_told r)
   unfolding insert_call
   insert_looks number r =
       let slots = room_in was in
       does_few (λ o. insert_call o slots key number) refl (λ t. insert-last t key slots number) (inserted_told r)
 
-  pub remove_looks : (r : Got) (is : Lent) → RemoveAllows key r was is → LooksFew key (got_told r)
+  pub remove_looks : (r : Answer Got) (is : Lent) → RemoveAllows key r was is → LooksFew key (got_told r)
   unfolding remove_call
   remove_looks r = does_few (λ o. remove_call o key) refl (λ t. remove-last t key) (got_told r)

@@ -10,7 +10,7 @@ use Rattle.tree.specs.Tree.{Tree, empty, pairs_t}
 use Rattle.tree.specs.Insert.{insert_t}
 use Rattle.tree.specs.Remove.{remove_t, clear_t}
 use Rattle.tree.specs.Split.{halves, split_t}
-use Rattle.tree.specs.Told.{emptied_told, inserted_told, got_told, divided_told, written_told}
+use Rattle.tree.specs.Told.{Answer, bare_told, inserted_told, got_told, written_told}
 use Rattle.tree.specs.Calls.{get_call, longest_call, shared_call}
 use Rattle.tree.specs.declared.Got.{Got}
 use Rattle.tree.specs.declared.Prefixed.{Prefixed}
@@ -43,7 +43,7 @@ holds_built : {l : Lent} (t u : Tree) → tree_in l ≡ some t → t ≡ u → B
 holds_built t u e same b = record { tree = u; held = e ∙ ap (λ (x : Tree). some x) same; built = b }
 
 pub pool_built : {l : Lent} → PoolBuilt l → HoldsBuilt l
-pool_built (pools.fresh was {is} r d e) = record { tree = empty; held = make_leaves (emptied_told r) was is d e; built = fresh }
+pool_built (pools.fresh was {is} r d e) = record { tree = empty; held = make_leaves (bare_told r) was is d e; built = fresh }
 pool_built (pools.inserted {was} {is} key number r short d e h) =
     let i = pool_built h in
     let x = insert-leaves key number (inserted_told r) was is d e in
@@ -56,16 +56,16 @@ pool_built (pools.removed {was} {is} key r d e h) =
     holds_built _ _ x.left refl (erased key taken i.built)
 pool_built (pools.cleared {was} {is} r d e h) =
     let i = pool_built h in
-    let x = clear_leaves (emptied_told r) was is d e in
+    let x = clear_leaves (bare_told r) was is d e in
     holds_built _ _ x.left (ap clear_t (one_tree x.held i.held)) (cleared i.built)
 pool_built (pools.remaining {was} {is} was₂ is₂ prefix r d e h) =
     let i = pool_built h in
-    let x = split_leaves prefix (divided_told r) was was₂ is is₂ d e in
+    let x = split_leaves prefix (bare_told r) was was₂ is is₂ d e in
     let parted : split_t i.tree prefix ≡ halves x.detached x.rest = rw (one_tree i.held x.held) x.parted in
     holds_built _ _ x.left refl (remaining prefix parted i.built)
 pool_built (pools.detached {was} {is₂} was₂ is prefix r d e h) =
     let i = pool_built h in
-    let x = split_leaves prefix (divided_told r) was was₂ is is₂ d e in
+    let x = split_leaves prefix (bare_told r) was was₂ is is₂ d e in
     let parted : split_t i.tree prefix ≡ halves x.detached x.rest = rw (one_tree i.held x.held) x.parted in
     holds_built _ _ x.left₂ refl (detached prefix parted i.built)
 
@@ -83,26 +83,26 @@ no_trace_pool {l} {m} p q e =
 
 -- so each written with room gives the same bytes and numbers at the fronts of its outputs, and tells the same lengths.
 module _ {l m : Lent} (p : PoolBuilt l) (q : PoolBuilt m) (e : pairs_in l ≡ pairs_in m) where
-  pub no_trace_written : {tree numbers tree' numbers' tree₂ numbers₂ tree₂' numbers₂' : List ℕ} (r s : Written)
+  pub no_trace_written : {tree numbers tree' numbers' tree₂ numbers₂ tree₂' numbers₂' : List ℕ} (r s : Answer Written)
       → WriteAllows r l tree numbers tree' numbers' → WriteAllows s m tree₂ numbers₂ tree₂' numbers₂' → Accepted (written_told r) → Accepted (written_told s)
       → WroteSame r s tree numbers tree' numbers' tree₂ numbers₂ tree₂' numbers₂'
   no_trace_written r s a b f g = wrote_same l m (no_trace_pool p q e) r s a b f g
 
   -- Into outputs of equal lengths the same is told, with any number.
-  pub no_trace_told : {tree numbers tree' numbers' tree₂ numbers₂ tree₂' numbers₂' : List ℕ} (r s : Written)
+  pub no_trace_told : {tree numbers tree' numbers' tree₂ numbers₂ tree₂' numbers₂' : List ℕ} (r s : Answer Written)
       → WriteAllows r l tree numbers tree' numbers' → WriteAllows s m tree₂ numbers₂ tree₂' numbers₂' → length tree ≡ length tree₂ → length numbers ≡ length numbers₂
       → r ≡ s
   no_trace_told r s a b f g = written_one r s (cc (a.said, b.said, no_trace_pool p q e))
 
   -- Each search answers alike, down to how many nodes it looked at.
   module _ (key : Key) where
-    pub no_trace_get : (r s : Got) → GetAllows key r l → GetAllows key s m → r ≡ s
+    pub no_trace_get : (r s : Answer Got) → GetAllows key r l → GetAllows key s m → r ≡ s
     no_trace_get r s a b = got_one r s (a ∙ ap (λ (o : Option Tree). get_call o key) (no_trace_pool p q e) ∙ sym b)
 
-    pub no_trace_longest : (r s : Prefixed) → LongestAllows key r l → LongestAllows key s m → r ≡ s
+    pub no_trace_longest : (r s : Answer Prefixed) → LongestAllows key r l → LongestAllows key s m → r ≡ s
     no_trace_longest r s a b = prefixed_one r s (a ∙ ap (λ (o : Option Tree). longest_call o key) (no_trace_pool p q e) ∙ sym b)
 
-    pub no_trace_shared : (r s : Sharing) → SharedAllows key r l → SharedAllows key s m → r ≡ s
+    pub no_trace_shared : (r s : Answer Sharing) → SharedAllows key r l → SharedAllows key s m → r ≡ s
     no_trace_shared r s a b = sharing_one r s (a ∙ ap (λ (o : Option Tree). shared_call o key) (no_trace_pool p q e) ∙ sym b)
 
 -- Two changes of different keys, accepted in either order, leave the same tree.
@@ -142,7 +142,7 @@ module _ {l : Lent} (p : PoolBuilt l) where
 
   -- So the two are written alike.
   pub swap_calls : (x y : Change) (a b c d : Lent) → ¬ (key_of x ≡ key_of y) → ChangedBy x l a → ChangedBy y a b → ChangedBy y l c → ChangedBy x c d
-      → {tree numbers tree' numbers' tree₂ numbers₂ tree₂' numbers₂' : List ℕ} (r s : Written)
+      → {tree numbers tree' numbers' tree₂ numbers₂ tree₂' numbers₂' : List ℕ} (r s : Answer Written)
       → WriteAllows r b tree numbers tree' numbers' → WriteAllows s d tree₂ numbers₂ tree₂' numbers₂' → Accepted (written_told r) → Accepted (written_told s)
       → WroteSame r s tree numbers tree' numbers' tree₂ numbers₂ tree₂' numbers₂'
   swap_calls x y a b c d ne f g h i r s j k = wrote_same b d (swap_trees x y a b c d ne f g h i) r s j k

@@ -10,7 +10,7 @@ use lib.ListN.{length}
 use lib.Dec.{leb}
 use Rattle.tree.specs.Tree.{Tree}
 use Rattle.tree.specs.Image.{image_t, numbers_t}
-use Rattle.tree.specs.Told.{Told, done, written_told}
+use Rattle.tree.specs.Told.{Answer, Told, done, written_told}
 use Rattle.tree.specs.Calls.{both, write_call}
 use Rattle.tree.specs.declared.Written.{Written}
 use Rattle.pool.specs.Lent.{Lent, tree_in}
@@ -32,7 +32,7 @@ tells (some t) bytes numbers e = go (both (leb (length (image_t t)) bytes) (leb 
     go false g = absurd (omega (arith, rw (g, write_call) at e))
     go true g = record { tree = t; held = refl; lengths = rw (g, write_call) }
 
-pub record Wrote (l : Lent) (r : Written) (tree numbers tree' numbers' : List ℕ) : Type 0 where
+pub record Wrote (l : Lent) (r : Answer Written) (tree numbers tree' numbers' : List ℕ) : Type 0 where
   pub whole : Tree
   pub held : tree_in l ≡ some whole
   pub lengths : written_told r ≡ done (length (image_t whole) ∷ length (numbers_t whole) ∷ [])
@@ -43,7 +43,7 @@ after-done : (o : Option Tree) (t : Tree) (n : ℕ) (what : Tree → List ℕ) (
 unfolding after
 after-done o t n what out e f = rw (e, f)
 
-pub write_leaves : (l : Lent) (r : Written) (tree numbers tree' numbers' : List ℕ) → WriteAllows r l tree numbers tree' numbers' → Accepted (written_told r)
+pub write_leaves : (l : Lent) (r : Answer Written) (tree numbers tree' numbers' : List ℕ) → WriteAllows r l tree numbers tree' numbers' → Accepted (written_told r)
     → Wrote l r tree numbers tree' numbers'
 write_leaves l r tree numbers tree' numbers' w e =
     let t = tells (tree_in l) (length tree) (length numbers) (sym (ap (λ (z : Told). z.number) w.said) ∙ e) in
@@ -56,7 +56,7 @@ write_leaves l r tree numbers tree' numbers' w e =
     }
 
 -- The same bytes and the same numbers stand at the fronts, and the same lengths are told.
-pub record WroteSame (r s : Written) (tree numbers tree' numbers' tree₂ numbers₂ tree₂' numbers₂' : List ℕ) : Type 0 where
+pub record WroteSame (r s : Answer Written) (tree numbers tree' numbers' tree₂ numbers₂ tree₂' numbers₂' : List ℕ) : Type 0 where
   pub image : List ℕ
   pub list : List ℕ
   pub lengths : written_told r ≡ done (length image ∷ length list ∷ [])
@@ -66,7 +66,7 @@ pub record WroteSame (r s : Written) (tree numbers tree' numbers' tree₂ number
   pub nums : numbers' ≡ front list numbers
   pub nums₂ : numbers₂' ≡ front list numbers₂
 
-pub wrote_same : (l m : Lent) → tree_in l ≡ tree_in m → {tree numbers tree' numbers' tree₂ numbers₂ tree₂' numbers₂' : List ℕ} (r s : Written)
+pub wrote_same : (l m : Lent) → tree_in l ≡ tree_in m → {tree numbers tree' numbers' tree₂ numbers₂ tree₂' numbers₂' : List ℕ} (r s : Answer Written)
     → WriteAllows r l tree numbers tree' numbers' → WriteAllows s m tree₂ numbers₂ tree₂' numbers₂' → Accepted (written_told r) → Accepted (written_told s)
     → WroteSame r s tree numbers tree' numbers' tree₂ numbers₂ tree₂' numbers₂'
 wrote_same l m e {tree} {numbers} {tree'} {numbers'} {tree₂} {numbers₂} {tree₂'} {numbers₂'} r s a b f g =

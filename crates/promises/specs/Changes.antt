@@ -1,7 +1,7 @@
 -- One change of one key by a public call that tells 0: an insert of a key of at most 255 bytes, or a remove.
 use Rattle.std.specs.Prelude.{ℕ}
 use Rattle.tree.specs.Key.{Key}
-use Rattle.tree.specs.Told.{inserted_told, got_told}
+use Rattle.tree.specs.Told.{Answer, inserted_told, got_told}
 use Rattle.tree.specs.declared.Inserted.{Inserted}
 use Rattle.tree.specs.declared.Got.{Got}
 use Rattle.pool.specs.Lent.{Lent}
@@ -19,13 +19,13 @@ key_of (insert key number) = key
 key_of (remove key) = key
 
 pub record InsertedBy (key : Key) (number : ℕ) (was is : Lent) : Type 0 where
-  pub answer : Inserted
+  pub answer : Answer Inserted
   pub short : Short key
   pub allowed : InsertAllows key number answer was is
   pub accepted : Accepted (inserted_told answer)
 
 pub record RemovedBy (key : Key) (was is : Lent) : Type 0 where
-  pub answer : Got
+  pub answer : Answer Got
   pub allowed : RemoveAllows key answer was is
   pub accepted : Accepted (got_told answer)
 

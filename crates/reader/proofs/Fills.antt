@@ -2,11 +2,15 @@
 use mathlib.Core.Path.{◌≡◌, refl, sym, ap, ◌∙◌, subst}
 use mathlib.Core.List.{List, [], ◌∷◌, ◌++◌, append_assoc, append-nil}
 use mathlib.Core.Option.{none, some}
-use Prim.Native.Nat.{ℕ, ◌+◌, ◌*◌, ◌/◌, ◌%◌, ◌≤◌, ◌<◌}
+use Prim.Native.Nat.{ℕ, zero, suc, ◌+◌, ◌*◌, ◌/◌, ◌%◌, ◌≤◌, ◌<◌}
 use native.Mathlib.Nat.{add-zero}
 use native.Mathlib.Omega.{arith}
 use lib.ListN.{length, get_or, set, take, drop, length-append, length-drop}
 use lib.Seq.{drop-drop, drop_at, take_at}
+use Rattle.std.specs.Prelude.{Some, None}
+use Rattle.std.specs.Prelude.{Option as Maybe}
+use Rattle.std.specs.Option.{unwrap_or}
+use Rattle.tree.specs.declared.RuleNo.{RuleNo}
 use Rattle.tree.specs.Map.{Num}
 use Rattle.tree.specs.Tree.{Tree, nodes_t, keys_w}
 use Rattle.tree.specs.Image.{numbers_w}
@@ -14,8 +18,10 @@ use Rattle.tree.specs.Reader.{has_number}
 use Rattle.tree.proofs.ReaderParts.{headed, byte_at}
 use Rattle.slots.specs.Layout.{num_of}
 use Rattle.slots.specs.Records.{Rec, rec_at, run}
-use Rattle.slots.specs.Put.{SlotPut}
-use Rattle.slots.specs.Bare.{Bare, bare_at, bare_of, bares_from, bares_t}
+use Rattle.slots.specs.Put.{SlotPut, rec_of}
+use Rattle.slots.specs.declared.put.Head.{Head}
+use Rattle.slots.proofs.Slots.{num_read}
+use Rattle.slots.specs.Bare.{Bare, stored_of, bare_at, bare_of, bares_from, bares_t}
 use Rattle.slots.proofs.Runs.{run_join, run_length, run_ext}
 use Rattle.slots.proofs.Slots.{bare_of_lem}
 use Rattle.splice.proofs.Bares.{bares_f-length}
@@ -25,17 +31,25 @@ use Rattle.reader.specs.Fill.{Room, SlotDue, rec_read, RecordDue, Behind, ImageO
 use Rattle.reader.proofs.Uncleared.{uncleared}
 use Rattle.reader.proofs.Items.{Item, image_of, numbers_of, bares_of, items_t, ItemDue, passed, Due, tree-image, tree-numbers, tree-bares, tree-due}
 
+-- A record says that it has a number as 1 or 0.
+keys_num : (h v : ℕ) → h ≤ 1 → keys_w (num_of h v) ≡ h
+unfolding num_of keys_w
+keys_num zero v e = refl
+keys_num (suc zero) v e = refl
+keys_num (suc (suc h)) v e = absurd (omega arith)
+
 -- A slot that was written from what the code read of the record
-pub slot_read : (s ns ws bs vs cs : List ℕ) (path : ℕ) (from : Cursor) (len has v : ℕ) (l : List ℕ) → len ≡ get_or s (from.at + 1) 0
-    → has ≡ has_number (get_or s from.at 0) → num_of has v ≡ num_of has (get_or ns from.next 0) → l ≡ take len (drop (from.at + 4) s)
-    → SlotPut ws bs vs cs from.slot.0 (record { start = path; len = len; has = has; num = num_of has v; span = 1; label = l })
+pub slot_read : (s ns ws bs vs cs : List ℕ) (path : ℕ) (from : Cursor) (h : Head) (l : List ℕ) → h.start ≡ path → h.len ≡ get_or s (from.at + 1) 0 → h.span ≡ 1
+    → stored_of h.stored ≡ num_of (has_number (get_or s from.at 0)) (get_or ns from.next 0) → l ≡ take h.len (drop (from.at + 4) s)
+    → SlotPut ws bs vs cs from.slot.0 (rec_of h l)
     → SlotPut ws bs vs cs from.slot.0 (rec_read s ns path from)
-slot_read s ns ws bs vs cs path from len has v l p q e b h =
-    let n = e ∙ ap (λ (x : ℕ). num_of x (get_or ns from.next 0)) q in
+slot_read s ns ws bs vs cs path from h l o p q e b put =
+    let n = num_read (stored_of h.stored) ∙ e in
+    let k = ap (λ (x : Num). keys_w x) e ∙ keys_num (has_number (get_or s from.at 0)) (get_or ns from.next 0) (omega arith) in
     let t = b ∙ ap (λ (x : ℕ). take x (drop (from.at + 4) s)) p in
-    let same : record { start = path; len = len; has = has; num = num_of has v; span = 1; label = l } ≡ rec_read s ns path from =
-    λ i. record { start = path; len = p i; has = q i; num = n i; span = 1; label = t i } in
-    subst (λ (r : Rec). SlotPut ws bs vs cs from.slot.0 r) same h
+    let same : rec_of h l ≡ rec_read s ns path from =
+    λ i. record { start = o i; len = p i; has = k i; num = n i; span = q i; label = t i } in
+    subst (λ (r : Rec). SlotPut ws bs vs cs from.slot.0 r) same put
 
 pub room_stays : {ws bs vs cs : List ℕ} {e : ℕ} → length vs ≡ length ws → length cs ≡ length bs → Room ws bs e → Room vs cs e
 room_stays p q r = record { words = omega (arith, r.words); labels = omega (arith, r.labels); few = r.few }

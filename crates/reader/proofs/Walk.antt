@@ -1,23 +1,21 @@
 -- A node and a list of siblings as the check counts them, beside what the reader gives. Assumes nothing.
-use mathlib.Core.Path.{◌≡◌, refl, sym, ap, ◌∙◌, subst}
-use mathlib.Core.Bool.{Bool, true, false}
+use mathlib.Core.Path.{◌≡◌, refl, sym, ap, ◌∙◌}
 use mathlib.Core.List.{List}
 use Prim.Native.Nat.{ℕ, zero, suc, ◌+◌, ◌*◌, ◌-◌, ◌≤◌, ◌<◌}
 use native.Mathlib.Omega.{arith}
 use lib.ListN.{length, get_or, length-drop}
+use Rattle.std.specs.Prelude.{Ok, Err}
 use Rattle.tree.specs.Key.{key_max}
 use Rattle.tree.specs.Map.{Num}
 use Rattle.tree.specs.Tree.{Forest, Tree, nodes_f, nodes_t}
-use Rattle.tree.specs.Told.{refusal_at}
-use Rattle.tree.specs.Reader.{at_most, Tested, judge, below, has_number, has_child, has_sibling, rules, numbers_past}
+use Rattle.tree.specs.Told.{refusal_at, Answer, refusal_told}
+use Rattle.tree.specs.Reader.{at_most, Tested, broken, sound, judge, below, has_number, has_child, has_sibling, rules, numbers_past}
 use Rattle.tree.specs.Reader.{Read, refused, gave, over_kids, read_node, over_rest, read_kids}
-use Rattle.tree.specs.declared.Loaded.{Loaded}
+use Rattle.tree.specs.declared.Refusal.{Refusal}
 use Rattle.tree.proofs.Judge.{never, judge-off, all_hold}
 use Rattle.tree.proofs.ReaderSteps.{maybe, node-is, node-refused, kids-is, kids-refused}
-use Rattle.reader.specs.declared.Found.{Found}
 use Rattle.reader.specs.declared.Mark.{Mark}
-use Rattle.reader.specs.declared.Part.{Part}
-use Rattle.reader.specs.Check.{count_rules, found_of, on, way_by, way_of, went_to, kids_way, node_way, Within, NodeChecked, KidsChecked}
+use Rattle.reader.specs.Check.{count_rules, off, on, way_of, kids_way, node_way, Within, NodeChecked, KidsChecked}
 
 -- The counts of a node are those of its children, and one more.
 node-way : (k : ℕ) (w : Num) (r : Read Forest) → node_way k (over_kids w r) ≡ kids_way (k + 1) r
@@ -49,13 +47,6 @@ past-length (suc (suc i)) ns h = absurd (omega arith)
 
 on-is : {a l k b m j : ℕ} → on a l k ≡ on b m j → (a ≡ b) × (l ≡ m) × (k ≡ j)
 on-is e = (cc, cc, cc)
-
--- A part that the check went through to m, and one in which it was stopped
-abbrev pub went : Mark → Part
-went m = went_to m.at m.left m.nodes
-
-abbrev pub stopped : Mark → Loaded → Part
-stopped m x = record { to = m; sound = false; fault = x }
 
 -- What the check knows of a record that passed its tests
 pub record Passed (s : List ℕ) (level path : ℕ) (from : Mark) : Type 0 where
@@ -93,32 +84,20 @@ module _ (s : List ℕ) (level least path : ℕ) (from : Mark) where
   rules-count : (ns : List ℕ) → length ns ≡ from.left → judge (rules s ns level least path from.at) ≡ Tests
   rules-count ns k = ap (λ (l : ℕ). judge (count_rules s l level least path from.at)) k
 
-  pub node-passed : found_of Found.Sound ≡ Tests → Passed s level path from
+  pub node-passed : sound ≡ Tests → Passed s level path from
   unfolding key_max
   node-passed e = let a = all_hold (count_rules s from.left level least path from.at) (sym e) in omega arith
 
-  pub node-broken : (m : Mark) (x : Loaded) → found_of (Found.Broken x) ≡ Tests → NodeChecked s level least path from (stopped m x)
+  pub node-broken : (x : Refusal) → broken (refusal_told x) ≡ Tests → NodeChecked s level least path from (Err x)
   unfolding node_way
-  node-broken m x e =
+  node-broken x e =
       record {
         is = λ n ns h k. rw (node-refused n s ns level least path from.at (rules-count ns k ∙ sym e));
         within = tt;
       }
 
-  -- of a part only this counts: where a sound one ends, and the fault of another
-  pub node-sound : (r : Part) → r.sound ≡ true → NodeChecked s level least path from r → NodeChecked s level least path from (went r.to)
-  node-sound r e p =
-      record {
-        is = λ n ns h k. sym (ap (way_by r.to r.fault) e) ∙ p.is n ns h k;
-        within = subst (Within s level from r.to) e p.within;
-      }
-
-  pub node_fault : (r : Part) (m : Mark) → r.sound ≡ false → NodeChecked s level least path from r
-      → NodeChecked s level least path from (stopped m r.fault)
-  node_fault r m e p = record { is = λ n ns h k. sym (ap (way_by r.to r.fault) e) ∙ p.is n ns h k; within = tt }
-
   -- a record that passed, over its children
-  over : found_of Found.Sound ≡ Tests → (n : ℕ) (ns : List ℕ) → length ns ≡ from.left
+  over : sound ≡ Tests → (n : ℕ) (ns : List ℕ) → length ns ≡ from.left
       → node_way from.nodes (node_at n ns)
       ≡ kids_way (from.nodes + 1) (maybe (has_child F) (from.at + 4 + M) (numbers_past (has_number F) ns) (kids_from n ns))
   over e n ns k =
@@ -128,8 +107,8 @@ module _ (s : List ℕ) (level least path : ℕ) (from : Mark) where
   past-left : (ns : List ℕ) → length ns ≡ from.left → length (numbers_past (has_number F) ns) ≡ from.left - has_number F
   past-left ns k = past-length (has_number F) ns (omega arith) ∙ ap (λ (l : ℕ). l - has_number F) k
 
-  pub node-leaf : found_of Found.Sound ≡ Tests → has_child F ≡ 0 → from.nodes ≤ from.at
-      → NodeChecked s level least path from (went (past_mark s from))
+  pub node-leaf : sound ≡ Tests → has_child F ≡ 0 → from.nodes ≤ from.at
+      → NodeChecked s level least path from (Ok (past_mark s from))
   node-leaf e c few =
       let o = node-passed e in
       record {
@@ -140,39 +119,39 @@ module _ (s : List ℕ) (level least path : ℕ) (from : Mark) where
         within = omega arith;
       }
 
-  pub node-deep : (r : Part) → found_of Found.Sound ≡ Tests → (has_child F ≡ 0 → ⊥)
+  pub node-deep : (r : Answer Mark) → sound ≡ Tests → (has_child F ≡ 0 → ⊥)
       → KidsChecked s (level + 1) 0 (path + M) (past_mark s from) r → NodeChecked s level least path from r
   node-deep r e c q =
       record {
         is = λ n ns h k.
             q.is n (numbers_past (has_number F) ns) (omega arith) (past-left ns k)
             ∙ sym (over e n ns k ∙ ap (kids_way (from.nodes + 1)) (some-way (has_child F) _ _ _ c));
-        within = wider r.to r.sound q.within;
+        within = wider r q.within;
       }
     where
-      wider : (m : Mark) (b : Bool) → Within s (level + 1) (past_mark s from) m b → Within s level from m b
-      wider m true w = let o = node-passed e in omega arith
-      wider m false w = tt
+      wider : (r : Answer Mark) → Within s (level + 1) (past_mark s from) r → Within s level from r
+      wider (Ok m) w = let o = node-passed e in omega arith
+      wider (Err x) w = tt
 
   -- no byte left for a record
   short-node : (n : ℕ) (ns : List ℕ) → length s < from.at + 4 → node_at n ns ≡ refused (refusal_at 6 from.at)
   short-node n ns h =
       node-refused n s ns level least path from.at (judge-off (at_most (from.at + 4) (length s) (refusal_at 6 from.at)) _ h)
 
-  pub stop-broken : (m : Mark) (x : Loaded) → NodeChecked s level least path from (stopped m x) → KidsChecked s level least path from (stopped m x)
-  stop-broken m x p = record { is = is; within = tt }
+  pub stop-broken : (x : Refusal) → NodeChecked s level least path from (Err x) → KidsChecked s level least path from (Err x)
+  stop-broken x p = record { is = is; within = tt }
     where
-      none : (ns : List ℕ) → node_at 0 ns ≡ refused (refusal_at 6 from.at) → way_of (stopped m x) ≡ node_way from.nodes (node_at 0 ns)
-          → way_of (stopped m x) ≡ kids_way from.nodes (read_kids 0 s level least path from.at ns)
+      none : (ns : List ℕ) → node_at 0 ns ≡ refused (refusal_at 6 from.at) → off (refusal_told x) ≡ node_way from.nodes (node_at 0 ns)
+          → off (refusal_told x) ≡ kids_way from.nodes (read_kids 0 s level least path from.at ns)
       none ns e w = w ∙ rw e (unfold node_way kids_way read_kids in refl)
 
-      by : (n : ℕ) (ns : List ℕ) (t : Read Tree) → node_at n ns ≡ t → way_of (stopped m x) ≡ node_way from.nodes t
-          → way_of (stopped m x) ≡ kids_way from.nodes (read_kids (suc n) s level least path from.at ns)
+      by : (n : ℕ) (ns : List ℕ) (t : Read Tree) → node_at n ns ≡ t → off (refusal_told x) ≡ node_way from.nodes t
+          → off (refusal_told x) ≡ kids_way from.nodes (read_kids (suc n) s level least path from.at ns)
       by n ns (refused y) e w = rw (kids-refused n s ns level least path from.at e) (unfold node_way kids_way in w)
       by n ns (gave t a left) e w = unfold node_way in never (cc)
 
       is : (n : ℕ) (ns : List ℕ) → length s ≤ from.at + n → length ns ≡ from.left
-          → way_of (stopped m x) ≡ kids_way from.nodes (read_kids n s level least path from.at ns)
+          → off (refusal_told x) ≡ kids_way from.nodes (read_kids n s level least path from.at ns)
       is zero ns h k = none ns (short-node 0 ns (omega arith)) (p.is 0 ns (omega arith) k)
       is (suc n) ns h k = by n ns (node_at n ns) refl (p.is n ns h k)
 
@@ -184,12 +163,12 @@ module _ (s : List ℕ) (level least path : ℕ) (from : Mark) where
     pub left : length stock ≡ m.left
     pub nodes : from.nodes + nodes_t tree ≡ m.nodes
 
-  pub ended : (m : Mark) → NodeChecked s level least path from (went m) → (n : ℕ) (ns : List ℕ) → length s ≤ from.at + suc n → length ns ≡ from.left
+  pub ended : (m : Mark) → NodeChecked s level least path from (Ok m) → (n : ℕ) (ns : List ℕ) → length s ≤ from.at + suc n → length ns ≡ from.left
       → Ended m n ns
   unfolding node_way
   ended m r n ns h k = by (node_at n ns) refl (r.is n ns h k)
     where
-      by : (t : Read Tree) → node_at n ns ≡ t → way_of (went m) ≡ node_way from.nodes t → Ended m n ns
+      by : (t : Read Tree) → node_at n ns ≡ t → on m.at m.left m.nodes ≡ node_way from.nodes t → Ended m n ns
       by (refused y) e w = never (cc)
       by (gave t a stock) e w =
           let i = on-is w in
@@ -207,19 +186,19 @@ module _ (s : List ℕ) (level least path : ℕ) (from : Mark) where
       ∙ rest-way from.nodes _ _ g.tree _
       ∙ ap (λ (k : ℕ). kids_way k (rest_at n m.at g.stock)) g.nodes
 
-  pub stop-last : (m : Mark) → NodeChecked s level least path from (went m) → has_sibling F ≡ 0 → KidsChecked s level least path from (went m)
+  pub stop-last : (m : Mark) → NodeChecked s level least path from (Ok m) → has_sibling F ≡ 0 → KidsChecked s level least path from (Ok m)
   stop-last m r e = record { is = is; within = r.within }
     where
       is : (n : ℕ) (ns : List ℕ) → length s ≤ from.at + n → length ns ≡ from.left
-          → way_of (went m) ≡ kids_way from.nodes (read_kids n s level least path from.at ns)
+          → on m.at m.left m.nodes ≡ kids_way from.nodes (read_kids n s level least path from.at ns)
       is zero ns h k = absurd (omega (arith, r.within))
       is (suc n) ns h k =
           let g = ended m r n ns h k in
           sym (behind m n ns g ∙ none-way m.nodes (has_sibling F) _ _ _ e ∙ ap (λ (l : ℕ). on m.at l m.nodes) g.left)
 
-  pub go_on : (m : Mark) (r : Part) → NodeChecked s level least path from (went m) → (has_sibling F ≡ 0 → ⊥)
+  pub go_on : (m : Mark) (r : Answer Mark) → NodeChecked s level least path from (Ok m) → (has_sibling F ≡ 0 → ⊥)
       → KidsChecked s level (get_or s (from.at + 4) 0 + 1) path m r → KidsChecked s level least path from r
-  go_on m r p e q = record { is = is; within = wider r.to r.sound q.within }
+  go_on m r p e q = record { is = is; within = wider r q.within }
     where
       is : (n : ℕ) (ns : List ℕ) → length s ≤ from.at + n → length ns ≡ from.left
           → way_of r ≡ kids_way from.nodes (read_kids n s level least path from.at ns)
@@ -229,13 +208,13 @@ module _ (s : List ℕ) (level least path : ℕ) (from : Mark) where
           q.is n g.stock (omega (arith, p.within)) g.left
           ∙ sym (behind m n ns g ∙ ap (kids_way m.nodes) (some-way (has_sibling F) _ _ _ e))
 
-      wider : (b : Mark) (x : Bool) → Within s level m b x → Within s level from b x
-      wider b true w = omega (arith, p.within)
-      wider b false w = tt
+      wider : (r : Answer Mark) → Within s level m r → Within s level from r
+      wider (Ok b) w = omega (arith, p.within)
+      wider (Err x) w = tt
 
 -- What the loop over siblings keeps: whatever answers the rest answers all.
 pub record Walk (s : List ℕ) (level path : ℕ) (from : Mark) (least : ℕ) (m : Mark) : Type 0 where
   pub forth : from.at ≤ m.at
   pub inside : m.at ≤ length s
   pub few : m.nodes ≤ m.at
-  pub whole : (r : Part) → KidsChecked s level least path m r → KidsChecked s level 0 path from r
+  pub whole : (r : Answer Mark) → KidsChecked s level least path m r → KidsChecked s level 0 path from r

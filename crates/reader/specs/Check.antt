@@ -1,16 +1,12 @@
 -- What the check answers, beside the reader of tree/specs/Reader.antt: that one gives trees and lists of numbers, the code
 -- counts. s is the whole image, `at` an offset into it, path the length of the labels above.
-use Rattle.std.specs.Prelude.{◌≡◌, Bool, true, false, List, [], ◌∷◌, ◌++◌, ℕ, suc, ◌+◌, ◌*◌, ◌≤◌, length, get_or}
+use Rattle.std.specs.Prelude.{◌≡◌, List, [], ◌∷◌, ◌++◌, ℕ, suc, ◌+◌, ◌*◌, ◌≤◌, length, get_or, Ok, Err, ⊤}
 use Rattle.tree.specs.Key.{key_max}
 use Rattle.tree.specs.Tree.{Forest, Tree, nodes_f, nodes_t}
-use Rattle.tree.specs.Told.{Told, done, refusal, refusal_at, loaded_told}
+use Rattle.tree.specs.Told.{Told, refusal, refusal_at, Answer, refusal_told}
 use Rattle.tree.specs.Reader.{Rule, at_most, equal, Tested, broken, sound, has_number, has_child, below, flag_rules}
 use Rattle.tree.specs.Reader.{Read, refused, gave, read_node, read_kids, Verdict, refused_with, ok, read_t}
-use Rattle.tree.specs.declared.Loaded.{Loaded}
-use Rattle.reader.specs.declared.Found.{Found}
 use Rattle.reader.specs.declared.Mark.{Mark}
-use Rattle.reader.specs.declared.Part.{Part}
-use Rattle.reader.specs.declared.Checked.{Checked}
 
 -- The tests of one record in two parts; the numbers left are counted.
 abbrev pub head_rules : (s : List ℕ) (level at : ℕ) → List Rule
@@ -36,24 +32,18 @@ body_rules s left level least path at =
 abbrev pub count_rules : (s : List ℕ) (left level least path at : ℕ) → List Rule
 count_rules s left level least path at = head_rules s level at ++ body_rules s left level least path at
 
-abbrev pub found_of : Found → Tested
-found_of Found.Sound = sound
-found_of (Found.Broken x) = broken (loaded_told x)
+abbrev pub found_of : Answer ⊤ → Tested
+found_of (Ok x) = sound
+found_of (Err x) = broken (refusal_told x)
 
 -- How far a part of the image goes: a refusal, or the offset behind it, the numbers left and the nodes passed
 pub data Way : Type 0 where
   off : Told → Way
   on : (at left nodes : ℕ) → Way
 
-abbrev pub way_by : Mark → Loaded → Bool → Way
-way_by m x true = on m.at m.left m.nodes
-way_by m x false = off (loaded_told x)
-
-abbrev pub way_of : Part → Way
-way_of r = way_by r.to r.fault r.sound
-
-abbrev pub went_to : (at left nodes : ℕ) → Part
-went_to at left nodes = record { to = record { at = at; left = left; nodes = nodes }; sound = true; fault = Loaded.Done }
+abbrev pub way_of : Answer Mark → Way
+way_of (Ok m) = on m.at m.left m.nodes
+way_of (Err x) = off (refusal_told x)
 
 -- The same of what the reader gives, after k nodes
 unfoldable pub kids_way : ℕ → Read Forest → Way
@@ -65,26 +55,26 @@ node_way k (refused x) = off x
 node_way k (gave t a left) = on a (length left) (k + nodes_t t)
 
 -- What the code knows of a part that was read from a mark on
-abbrev pub Within : (s : List ℕ) (level : ℕ) (from to : Mark) → Bool → Type 0
-Within s level from m true = (from.at + 4 + below level ≤ m.at) × (m.at ≤ length s) × (m.nodes ≤ m.at)
-Within s level from m false = Unit {0}
+abbrev pub Within : (s : List ℕ) (level : ℕ) (from : Mark) → Answer Mark → Type 0
+Within s level from (Ok m) = (from.at + 4 + below level ≤ m.at) × (m.at ≤ length s) × (m.nodes ≤ m.at)
+Within s level from (Err x) = Unit {0}
 
 -- The reader's answer, for all numbers of which so many are left, with any fuel that the bytes left ask
-pub record NodeChecked (s : List ℕ) (level least path : ℕ) (from : Mark) (r : Part) : Type 0 where
+pub record NodeChecked (s : List ℕ) (level least path : ℕ) (from : Mark) (r : Answer Mark) : Type 0 where
   pub is : (n : ℕ) (ns : List ℕ) → length s ≤ from.at + suc n → length ns ≡ from.left
       → way_of r ≡ node_way from.nodes (read_node (read_kids n s) s level least path from.at ns)
-  pub within : Within s level from r.to r.sound
+  pub within : Within s level from r
 
-pub record KidsChecked (s : List ℕ) (level least path : ℕ) (from : Mark) (r : Part) : Type 0 where
+pub record KidsChecked (s : List ℕ) (level least path : ℕ) (from : Mark) (r : Answer Mark) : Type 0 where
   pub is : (n : ℕ) (ns : List ℕ) → length s ≤ from.at + n → length ns ≡ from.left
       → way_of r ≡ kids_way from.nodes (read_kids n s level least path from.at ns)
-  pub within : Within s level from r.to r.sound
+  pub within : Within s level from r
 
 -- The root's part begins with the image.
 abbrev pub start : ℕ → Mark
 start numbers = record { at = 0; left = numbers; nodes = 0 }
 
-abbrev pub RootChecked : (s : List ℕ) (numbers : ℕ) → Part → Type 0
+abbrev pub RootChecked : (s : List ℕ) (numbers : ℕ) → Answer Mark → Type 0
 RootChecked s numbers r = NodeChecked s 0 0 0 (start numbers) r
 
 -- Where a part begins, below the root; this settles every overflow.
@@ -100,19 +90,14 @@ pub data Count : Type 0 where
   refuses : Told → Count
   holds : (nodes : ℕ) → Count
 
-abbrev pub count_of : Checked → Count
-count_of (Checked.Refused x) = refuses (loaded_told x)
-count_of (Checked.Accepted k) = holds k
-
--- What the verdict is answered with: an image that was accepted has been read.
-abbrev pub answer_of : Checked → Told
-answer_of (Checked.Refused x) = loaded_told x
-answer_of (Checked.Accepted k) = done []
+abbrev pub count_of : Answer ℕ → Count
+count_of (Ok k) = holds k
+count_of (Err x) = refuses (refusal_told x)
 
 unfoldable pub verdict_count : Verdict → Count
 verdict_count (refused_with x) = refuses x
 verdict_count (ok t) = holds (nodes_t t)
 
 -- The check's answer is the reader's, for all lists of so many numbers.
-abbrev pub CheckedAs : (s : List ℕ) (numbers slots : ℕ) → Checked → Type 0
+abbrev pub CheckedAs : (s : List ℕ) (numbers slots : ℕ) → Answer ℕ → Type 0
 CheckedAs s numbers slots r = (ns : List ℕ) → length ns ≡ numbers → count_of r ≡ verdict_count (read_t s ns slots)

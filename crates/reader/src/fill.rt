@@ -4,12 +4,12 @@ ghost use Rattle.std.specs.Prelude.{◌≡◌, [], ◌+◌, ◌*◌, ◌≤◌, 
 ghost use Rattle.tree.specs.Told.{done};
 ghost use Rattle.tree.specs.Calls.{read_call};
 ghost use Rattle.slots.specs.Layout.{num_of};
+ghost use Rattle.slots.specs.Bare.{stored_of};
 ghost use Rattle.pool.specs.Pool.{slots_of};
 ghost use Rattle.slots.specs.Put.{SlotPut};
 ghost use Rattle.pool.specs.Post.{Meets};
 ghost use Rattle.reader.specs.Fill.{SlotDue, rec_read, RecordDue, Behind, RecordsDue, Recorded, FillDue};
 
-use super::wide;
 use flags::has_number;
 use slots::put::{Head, put_slot};
 use splice::settle;
@@ -23,15 +23,15 @@ struct Cursor {
     next: usize,
 }
 
-// The number of a record that has one, and 0 for one that has none.
-fn number_due(numbers: &[u64], next: usize, has: usize) -> RuleNo
+// The number of a record, if it has one.
+fn number_due(numbers: &[u64], next: usize, has: usize) -> Option<RuleNo>
     requires { next + has ≤ length numbers.now }
-    ensures { num_of has result.0 ≡ num_of has (get_or numbers.now next 0) }
+    ensures { stored_of result ≡ num_of has (get_or numbers.now next 0) }
 {
     if has == 0 {
-        return RuleNo(0);
+        return None;
     }
-    RuleNo(numbers[next])
+    Some(RuleNo(numbers[next]))
 }
 
 // Writes the record at the cursor into its slot, under a path of so many bytes. How many nodes are below it is not known
@@ -51,14 +51,12 @@ fn fill_slot(
         SlotPut ws bs words.new labels.new from.slot.0 r }
 {
     let at = from.at;
-    let len = wide(tree[at + 1]);
-    let has = has_number(tree[at]);
-    let number = number_due(numbers, from.next, has);
+    let len = usize::from(tree[at + 1]);
+    let stored = number_due(numbers, from.next, has_number(tree[at]));
     let head = Head {
         start: path as u32,
         len: len as u32,
-        has: has as u32,
-        number: number,
+        stored,
         span: 1,
     };
     let first = at + 4;
@@ -74,7 +72,7 @@ fn behind(tree: &[u8], from: Cursor) -> Cursor
 {
     let at = from.at;
     Cursor {
-        at: at + 4 + wide(tree[at + 1]),
+        at: at + 4 + usize::from(tree[at + 1]),
         slot: Slot(from.slot.0 + 1),
         next: from.next + has_number(tree[at]),
     }
@@ -86,14 +84,7 @@ fn level_at(tree: &[u8], at: usize) -> Level
     ensures { let s = tree.now in
         (result.0 ≡ 256 * get_or s (at + 2) 0 + get_or s (at + 3) 0) × (result.0 < 65536) }
 {
-    Level(256 * wide(tree[at + 2]) + wide(tree[at + 3]))
-}
-
-// The length of a path as the table keeps it.
-fn path_of(x: u16) -> usize
-    ensures { (result ≡ x) × (result < 65536) }
-{
-    x as usize
+    Level(256 * usize::from(tree[at + 2]) + usize::from(tree[at + 3]))
 }
 
 // Writes every record into its slot, but for the spans, and gives their count. A node's children start where its label
@@ -114,8 +105,8 @@ fn fill_records(labels: &mut [u8], words: &mut [u32], tree: &[u8], numbers: &[u6
     while c.at < tree.len() {
         let at = c.at;
         let level = level_at(tree, at).0;
-        let start = path_of(starts[level]);
-        let end = start + wide(tree[at + 1]);
+        let start = usize::from(starts[level]);
+        let end = start + usize::from(tree[at + 1]);
         starts[level + 1] = end as u16;
         fill_slot(labels, words, tree, numbers, start, c);
         c = behind(tree, c);

@@ -1,11 +1,12 @@
 -- The number taken at the key's slot: what is tidied from there, and what the call then tells and leaves. Assumes nothing.
-use mathlib.Core.Path.{◌≡◌, refl, sym, ap, ◌∙◌}
+use mathlib.Core.Path.{◌≡◌, refl, sym, ap, ◌∙◌, subst}
 use mathlib.Core.List.{List, [], ◌∷◌, append-nil}
+use mathlib.Core.Logic.{inl, inr}
 use mathlib.Core.Option.{none, some}
 use Prim.Native.Nat.{ℕ, suc, ◌+◌, ◌≤◌, ◌<◌}
 use native.Mathlib.Omega.{arith}
 use lib.ListN.{length}
-use Rattle.tree.specs.Key.{Key, strip}
+use Rattle.tree.specs.Key.{Key, strip, key_max}
 use Rattle.tree.specs.Map.{Num}
 use Rattle.tree.specs.Tree.{Forest, node, Tree, nodes_f, keys_w}
 use Rattle.tree.specs.Search.{get_t}
@@ -36,7 +37,7 @@ use Rattle.search.specs.declared.Stop.{Stop}
 use Rattle.search.specs.declared.Descent.{Descent}
 use Rattle.search.specs.Landing.{Place, PlaceOf}
 use Rattle.search.proofs.Places.{plug_stands, plug-nodes, nodes-node}
-use Rattle.search.proofs.Answers.{got_at, AtSlot, place-within, get_place, fits_not, fits_well, Known, tree, tree_is, holds, looked-is, place}
+use Rattle.search.proofs.Answers.{got_at, AtSlot, place-within, get_place, fits_not, fits_well, Known, tree, tree_is, holds, looked-is, place, Arrived, Missed}
 use Rattle.tidy.specs.Climb.{Kept, reached, rising, Stage, Climbing, Tidied}
 use Rattle.tidy.proofs.Sparse.{Same, stands_sparse}
 use Rattle.tidy.proofs.Rise.{parent-below}
@@ -194,28 +195,37 @@ module _ {ws bs : List ℕ} {at looked : ℕ} (x : Found ws bs at looked) where
       (record { said = rw (found_number, ← e) refl; tree = d.tree; slots = slots_stay ws bs us ds h.slots (d.len_w ∙ a.filled.len_w) d.len_b h.lengths })
 
 -- The search has ended at the key's slot, or elsewhere: then no key is there.
+pub arrived_exact : {s : Stop} → Arrived s → Exact s
+arrived_exact (inl e) = subst Exact (sym e) tt
+arrived_exact (inr e) = subst Exact (sym e) tt
+
+missed-nothing : {s : Stop} (w : Num) → Missed s → got_at s w ≡ none
+unfolding got_at
+missed-nothing w (inl e) = rw e
+missed-nothing w (inr (inl e)) = rw e.1
+missed-nothing w (inr (inr e)) = rw e.1
+
 module _ {ws bs key : List ℕ} {d : Descent} (w : Known ws bs key d) where
-  unfoldable pub found : (s : Stop) → d.stop ≡ s → Exact s → Found ws bs d.at.0 d.looked.0
-  found s e x =
+  unfoldable pub found : Arrived d.stop → Found ws bs d.at.0 d.looked.0
+  found h =
       record {
         tree = tree w;
         is = tree_is w;
         bytes = w.bytes;
         key = key;
         short = w.short;
-        stop = s;
-        exact = x;
+        stop = d.stop;
+        exact = arrived_exact h;
         over = d.parent.0;
         above = d.above;
-        place = place w s e;
+        place = place w d.stop refl;
         looked-is = looked-is w;
       }
 
-  pub elsewhere : (s : Stop) → d.stop ≡ s → got_at s (num_at ws d.at.0) ≡ none
-      → Meets (remove_call (pool_tree ws bs) key) (refusal_at 3 d.looked.0) ws bs ws bs
+  pub elsewhere : Missed d.stop → Meets (remove_call (pool_tree ws bs) key) (refusal_at 3 d.looked.0) ws bs ws bs
   unfolding remove_call remove_t if_stored remove_told
-  elsewhere s e g =
-      let n = get_place (holds w) key s d.at.0 d.parent.0 d.above (place w s e) ∙ g in
+  elsewhere h =
+      let n = get_place (holds w) key d.stop d.at.0 d.parent.0 d.above (place w d.stop refl) ∙ missed-nothing (num_at ws d.at.0) h in
       rw (tree_is w, fits_well key w.short, remove_call, n, if_stored, remove_told, ← looked-is w)
       (record { said = refl; words = refl; labels = refl })
 
@@ -225,6 +235,6 @@ module _ (ws bs key : List ℕ) where
   unfolding remove_call
   remove-refused h = rw (no-rule ws bs h) (record { said = refl; words = refl; labels = refl })
 
-  pub remove_long : PoolRule ws bs → 4096 < length key → Meets (remove_call (pool_tree ws bs) key) (refusal 2) ws bs ws bs
+  pub remove_long : PoolRule ws bs → ¬ (length key ≤ key_max) → Meets (remove_call (pool_tree ws bs) key) (refusal 2) ws bs ws bs
   unfolding remove_call
   remove_long r h = rw ((rule-tree ws bs r).1, fits_not key h, remove_call) (record { said = refl; words = refl; labels = refl })

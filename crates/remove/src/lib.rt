@@ -2,61 +2,52 @@
 // Counterpart: `remove` of the Rust.
 #![tactic(auto)]
 
-ghost use Rattle.std.specs.Prelude.{◌≤◌, length};
-ghost use Rattle.tree.specs.Key.{key_max};
 ghost use Rattle.pool.specs.Lent.{lent};
-ghost use Rattle.pool.specs.Rule.{PoolRule};
+ghost use Rattle.search.specs.Landing.{Descends};
 ghost use Rattle.remove.specs.Found.{Found};
 ghost use Rattle.remove.specs.Post.{RemoveAllows};
 
-use search::Stop;
-use slots::put::Stored;
-use tree::{Got, KEY_MAX, Looked, Slot};
+use pool::Pool;
+use search::{Descent, Stop};
+use slots::put::stored_at;
+use tree::{Answer, Got, Key, Looked, Refusal, Slot};
 
 // The key ends at the slot: its number is taken, if there is one.
-fn take_number(labels: &mut [u8], words: &mut [u32], at: Slot, looked: Looked) -> Got
+fn take_number(labels: &mut [u8], words: &mut [u32], at: Slot, looked: Looked) -> Answer<Got>
     requires { Found words.old labels.old at.0 looked.0 }
     ensures { let was = lent labels.old words.old in
         let is = lent labels.new words.new in
         ((x : Found was.words was.labels at.0 looked.0) → RemoveAllows x.key result was is) }
 {
-    match slots::put::stored_at(words, at) {
-        Stored::Nothing => Got::NotFound(looked),
-        Stored::Number(v) => {
+    match stored_at(words, at) {
+        None => Err(Refusal::NotFound(looked)),
+        Some(number) => {
             splice::alter::drop_number(words, at);
             tidy::tidy(labels, words, at);
-            Got::Number(v, looked)
+            Ok(Got { number, looked })
         }
     }
 }
 
-// `remove` in a pool that has been tested, of a key that is not too long.
-fn remove_in(labels: &mut [u8], words: &mut [u32], key: &[u8]) -> Got
-    requires { PoolRule words.old labels.old × (length key.now ≤ key_max) }
+// Takes the number where the search for the key has ended.
+fn remove_in(labels: &mut [u8], words: &mut [u32], d: Descent, key: &[u8]) -> Answer<Got>
+    requires { Descends (lent labels.old words.old) key.now d }
     ensures { RemoveAllows key.now result (lent labels.old words.old) (lent labels.new words.new) }
 {
-    let d = search::descend(labels, words, key);
     let at = d.at;
     let looked = d.looked;
-    let stop = d.stop;
-    match stop {
-        Stop::Root => take_number(labels, words, at, looked),
-        Stop::Gap => Got::NotFound(looked),
-        Stop::Same => take_number(labels, words, at, looked),
-        Stop::Inside(_) => Got::NotFound(looked),
-        Stop::Fork(_) => Got::NotFound(looked),
+    match d.stop {
+        Stop::Root | Stop::Same => take_number(labels, words, at, looked),
+        Stop::Gap | Stop::Inside(_) | Stop::Fork(_) => Err(Refusal::NotFound(looked)),
     }
 }
 
 // Takes the key out, and gives its number.
-pub fn remove(labels: &mut [u8], words: &mut [u32], key: &[u8]) -> Got
+pub fn remove(labels: &mut [u8], words: &mut [u32], key: &[u8]) -> Answer<Got>
     ensures { RemoveAllows key.now result (lent labels.old words.old) (lent labels.new words.new) }
 {
-    if !pool::is_pool(labels, words) {
-        return Got::NotPool;
-    }
-    if key.len() > KEY_MAX {
-        return Got::TooLong;
-    }
-    remove_in(labels, words, key)
+    let pool = Pool::new(labels, words)?;
+    let tested = Key::new(key)?;
+    let d = search::descend(&pool, &tested);
+    remove_in(labels, words, d, key)
 }

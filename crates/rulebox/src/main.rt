@@ -1,220 +1,166 @@
 // Commands on standard input, one a line, on two pools of 128 slots named 0 and 1; one line of answer each on standard output.
 // An answer begins with document 01's number; what is no command is answered by `?` and changes nothing. A line is read, then
-// taken apart, then run, so that few functions have pools in hand, and only `main`, `respond` and `divide` both.
+// taken apart, then run.
 #![tactic(auto)]
 
-use command::{Heard, Named, Verb, Words};
+use command::{Command, Named, NotCommand, Verb, Words};
 use std::io::{self, Write};
+use tree::KEY_MAX;
 use walk::Walk;
 
 // A walk over 128 slots gives at most so many keys.
 const KEYS: usize = 128;
 
+// A pool of 128 slots.
+#[derive(Drop)]
+struct Pool {
+    labels: [u8; 32640],
+    words: [u32; 1032],
+}
+
+// What the words of a line give. A line of the room's length has no more than 65,536 bytes in hex, nor numbers.
+#[derive(Drop)]
+struct Room {
+    bytes: [u8; 65536],
+    numbers: [u64; 65536],
+}
+
+// An empty pool.
+fn new_pool() -> Pool {
+    let mut pool = Pool {
+        labels: [0; 32640],
+        words: [0; 1032],
+    };
+    let _ = pool::make(&mut pool.labels, &mut pool.words);
+    pool
+}
+
 // The largest image of 128 slots: the root's 4 bytes, and 259 for each other.
-fn write<W: Write>(to: &mut W, labels: &[u8], words: &[u32]) -> io::Result<()> {
+fn write<W: Write>(to: &mut W, pool: &Pool) -> io::Result<()> {
     let mut tree = [0u8; 32897];
     let mut numbers = [0u64; 128];
-    let answer = writer::write(labels, words, &mut tree, &mut numbers);
+    let answer = writer::write(&pool.labels, &pool.words, &mut tree, &mut numbers);
     tell::written(to, answer, &tree, &numbers)
 }
 
 // Every step of a new walk to its end.
-fn walk_all<W: Write>(to: &mut W, labels: &[u8], words: &[u32], prefix: &[u8]) -> io::Result<()> {
-    let mut key = [0u8; 4096];
+fn walk_all<W: Write>(to: &mut W, pool: &Pool, prefix: &[u8]) -> io::Result<()> {
+    let mut key = [0u8; KEY_MAX];
     let mut walk = Walk::new(prefix);
-    let mut left: usize = KEYS + 1;
-    while left > 0 {
-        let step = walk.step(labels, words, &mut key);
+    for _ in 0..KEYS + 1 {
+        let step = walk.step(&pool.labels, &pool.words, &mut key);
         let answer = step.answer;
         tell::walked(to, answer, &key)?;
-        if answer.number() > 0 {
-            return Ok(());
+        if answer.is_err() {
+            break;
         }
         walk = step.walk;
-        left -= 1;
     }
     Ok(())
 }
 
-// One step of a walk that is handed in.
-fn step_into<W: Write>(
-    to: &mut W,
-    labels: &[u8],
-    words: &[u32],
-    walk: Walk,
-    out: &mut [u8],
-) -> io::Result<()> {
-    let step = walk.step(labels, words, out);
-    let answer = step.answer;
-    tell::stepped(to, answer, out)
-}
-
-// The same with an output of so many bytes, at most 4,096.
-fn step<W: Write>(
-    to: &mut W,
-    labels: &[u8],
-    words: &[u32],
-    walk: Walk,
-    room: usize,
-) -> io::Result<()> {
-    let mut out = [0u8; 4096];
-    if room <= 4096 {
-        step_into(to, labels, words, walk, &mut out[0..room])?;
-    }
-    Ok(())
+// One step of a walk that is handed in, with an output of so many bytes, at most 4,096.
+fn step<W: Write>(to: &mut W, pool: &Pool, walk: Walk, room: usize) -> io::Result<()> {
+    let mut out = [0u8; KEY_MAX];
+    let out = &mut out[..room.min(KEY_MAX)];
+    let step = walk.step(&pool.labels, &pool.words, out);
+    tell::stepped(to, step.answer, out)
 }
 
 // The walk that is handed in.
 fn handed_in(said: Words, bytes: &[u8]) -> Walk {
-    let k = said.key;
-    let fresh = Walk::new(command::first_bytes(bytes, k));
-    if said.begun {
-        return fresh.after(command::first_bytes(command::bytes_behind(bytes, k), said.last));
+    let fresh = Walk::new(command::first(bytes, said.key));
+    match said.last {
+        Some(n) => fresh.after(command::first(command::behind(bytes, said.key), n)),
+        None => fresh,
     }
-    fresh
 }
 
 // A command that leaves its pool as it is.
-fn look<W: Write>(
-    to: &mut W,
-    labels: &[u8],
-    words: &[u32],
-    verb: Verb,
-    key: &[u8],
-) -> io::Result<()> {
+fn look<W: Write>(to: &mut W, pool: &Pool, verb: Verb, key: &[u8]) -> io::Result<()> {
+    let labels = &pool.labels;
+    let words = &pool.words;
     match verb {
         Verb::Counts => tell::counted(to, pool::counts(labels, words)),
-        Verb::Write => write(to, labels, words),
+        Verb::Write => write(to, pool),
         Verb::Get => tell::got(to, search::get(labels, words, key)),
         Verb::Longest => tell::prefixed(to, search::longest(labels, words, key)),
         Verb::Shared => tell::sharing(to, search::shared(labels, words, key)),
-        Verb::Walk => walk_all(to, labels, words, key),
+        Verb::Walk => walk_all(to, pool, key),
         _ => tell::no_command(to),
     }
 }
 
-// A command on one pool.
+// A command on a pool. A split needs the other one too.
 fn run<W: Write>(
     to: &mut W,
-    labels: &mut [u8],
-    words: &mut [u32],
+    pool: &mut Pool,
+    other: &mut Pool,
     verb: Verb,
     said: Words,
-    bytes: &[u8],
-    numbers: &[u64],
+    room: &Room,
 ) -> io::Result<()> {
-    let key = command::first_bytes(bytes, said.key);
+    let labels = &mut pool.labels;
+    let words = &mut pool.words;
+    let key = command::first(&room.bytes, said.key);
     match verb {
-        Verb::Make => tell::emptied(to, pool::make(labels, words)),
-        Verb::Clear => tell::emptied(to, pool::clear(labels, words)),
-        Verb::Insert => {
-            let number = said.number;
-            tell::inserted(to, insert::insert(labels, words, key, number))
-        }
+        Verb::Make => tell::done(to, pool::make(labels, words)),
+        Verb::Clear => tell::done(to, pool::clear(labels, words)),
+        Verb::Insert => tell::inserted(to, insert::insert(labels, words, key, said.number)),
         Verb::Remove => tell::got(to, remove::remove(labels, words, key)),
+        Verb::Split => tell::done(
+            to,
+            split::split(labels, words, key, &mut other.labels, &mut other.words),
+        ),
         Verb::Read => {
-            let listed = command::first_numbers(numbers, said.count);
-            tell::loaded(to, reader::read(labels, words, key, listed))
+            let listed = command::first(&room.numbers, said.count);
+            tell::done(to, reader::read(labels, words, key, listed))
         }
-        Verb::Step => step(to, labels, words, handed_in(said, bytes), said.count),
-        _ => look(to, labels, words, verb, key),
+        Verb::Step => step(to, pool, handed_in(said, &room.bytes), said.count),
+        _ => look(to, pool, verb, key),
     }
-}
-
-// A split needs both pools.
-fn divide<W: Write>(
-    to: &mut W,
-    labels: &mut [u8],
-    words: &mut [u32],
-    prefix: &[u8],
-    labels2: &mut [u8],
-    words2: &mut [u32],
-) -> io::Result<()> {
-    tell::divided(to, split::split(labels, words, prefix, labels2, words2))
 }
 
 // What was heard is answered, on the pool that it names.
 fn respond<W: Write>(
     to: &mut W,
-    labels: &mut [u8; 32640],
-    words: &mut [u32; 1032],
-    labels2: &mut [u8; 32640],
-    words2: &mut [u32; 1032],
-    heard: Heard,
-    bytes: &[u8; 65536],
-    numbers: &[u64; 65536],
+    first: &mut Pool,
+    second: &mut Pool,
+    heard: Option<Result<(Command, Words), NotCommand>>,
+    room: &Room,
 ) -> io::Result<()> {
-    let Heard::Asks(order, said) = heard else {
-        return Ok(());
-    };
-    if !said.good {
-        return tell::no_command(to);
-    }
-    let verb = order.verb;
-    let pool = order.pool;
-    if let Verb::Split = verb {
-        let prefix = command::first_bytes(bytes, said.key);
-        return match pool {
-            Named::First => divide(to, labels, words, prefix, labels2, words2),
-            Named::Second => divide(to, labels2, words2, prefix, labels, words),
-            Named::Unknown => tell::no_command(to),
-        };
-    }
-    match pool {
-        Named::First => run(to, labels, words, verb, said, bytes, numbers),
-        Named::Second => run(to, labels2, words2, verb, said, bytes, numbers),
-        Named::Unknown => tell::no_command(to),
+    match heard {
+        None => Ok(()),
+        Some(Err(_)) => tell::no_command(to),
+        Some(Ok((order, said))) => match order.pool {
+            Named::First => run(to, first, second, order.verb, said, room),
+            Named::Second => run(to, second, first, order.verb, said, room),
+        },
     }
 }
 
-// A line of the room's length has no more than 65,536 bytes in hex, nor numbers.
-fn hear(
-    line: &[u8; 131072],
-    n: usize,
-    bytes: &mut [u8; 65536],
-    numbers: &mut [u64; 65536],
-) -> Heard {
-    command::hear(line, n, bytes, numbers)
-}
-
-fn make(labels: &mut [u8; 32640], words: &mut [u32; 1032]) {
-    pool::make(labels, words);
-}
-
-// Answers each line to the end of the input. A loop has to end, and nothing says that an input does: the turns are counted down
-// from a number that no run uses up.
+// Answers each line to the end of the input. A loop has to end, and nothing says that an input does: the turns are counted up to a
+// number that no run comes to.
 fn main(rt: HostRuntime) -> io::Result<()> {
     let mut from = rt.stdin();
     let mut to = io::writer(&rt);
-    let mut labels = [0u8; 32640];
-    let mut words = [0u32; 1032];
-    let mut labels2 = [0u8; 32640];
-    let mut words2 = [0u32; 1032];
+    let mut first = new_pool();
+    let mut second = new_pool();
     let mut line = [0u8; 131072];
     let mut chunk = [0u8; 4096];
-    let mut bytes = [0u8; 65536];
-    let mut numbers = [0u64; 65536];
-    make(&mut labels, &mut words);
-    make(&mut labels2, &mut words2);
-    let mut next = input::start();
-    let mut turns = u64::MAX;
-    while turns > 0 {
-        next = input::next_line(&mut from, next, &mut line, &mut chunk)?;
-        let heard = hear(&line, next.len, &mut bytes, &mut numbers);
-        respond(
-            &mut to,
-            &mut labels,
-            &mut words,
-            &mut labels2,
-            &mut words2,
-            heard,
-            &bytes,
-            &numbers,
-        )?;
-        if next.ended {
-            return Ok(());
-        }
-        turns -= 1;
+    let mut room = Room {
+        bytes: [0; 65536],
+        numbers: [0; 65536],
+    };
+    let mut rest = input::start();
+    for _ in 0..u64::MAX {
+        let next = input::next_line(&mut from, rest, &mut line, &mut chunk)?;
+        let heard = command::hear(&line, next.len, &mut room.bytes, &mut room.numbers);
+        respond(&mut to, &mut first, &mut second, heard, &room)?;
+        let Some(more) = next.rest else {
+            break;
+        };
+        rest = more;
     }
     Ok(())
 }

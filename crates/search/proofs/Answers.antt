@@ -2,12 +2,11 @@
 use mathlib.Core.Path.{◌≡◌, refl, sym, ap, ◌∙◌, subst}
 use mathlib.Core.Bool.{true, false}
 use mathlib.Core.List.{List, [], ◌∷◌, ◌++◌}
+use mathlib.Core.Logic.{◌⊎◌, inl, inr}
 use mathlib.Core.Option.{none, some}
-use Prim.Native.Nat.{ℕ, zero, suc, ◌+◌, ◌≤◌, ◌<◌}
+use Prim.Native.Nat.{ℕ, suc, ◌+◌, ◌≤◌, ◌<◌}
 use native.Mathlib.Omega.{arith}
-use lib.ListN.{length, get_or, length-append}
-use mir.Syntax.{w8}
-use mir.Val.{Fits}
+use lib.ListN.{length, length-append}
 use borrow.Author.Tests.{le-leb, lt-leb}
 use Rattle.tree.specs.Key.{Key, Bytes, key_max}
 use Rattle.tree.specs.Map.{Num}
@@ -19,18 +18,21 @@ use Rattle.tree.specs.Context.{depth, plug}
 use Rattle.tree.proofs.Parts.{part_same, part-key_ends, part-fork, strip-short, strip-fork}
 use Rattle.tree.proofs.Find.{look, find_f, find_t, above-none}
 use Rattle.tree.proofs.Looks.{looks_lt, looks_same, looks_key_ends, looks_fork, find_here, find_nothing, get_is_find}
-use Rattle.slots.specs.Layout.{WordsIn, nodes_of, num_at, num_of}
+use Rattle.slots.specs.Layout.{WordsIn, nodes_of, num_at}
 use Rattle.pool.specs.Pool.{pool_tree}
 use Rattle.slots.specs.Records.{node_rec, root_rec}
 use Rattle.pool.specs.Rule.{PoolRule}
 use Rattle.pool.proofs.Ruled.{rule-tree}
-use Rattle.pool.proofs.Answers.{no-rule, bytes_of}
+use Rattle.pool.proofs.Answers.{no-rule}
 use Rattle.pool.proofs.Stands.{Stands, Holds, nodes_are, stands_at}
 use Rattle.pool.proofs.Held.{slot-is_rec, tree-holds}
 use Rattle.search.specs.declared.Stop.{Stop}
+use Rattle.std.specs.Prelude.{Some}
+use Rattle.std.specs.Prelude.{Option as Maybe}
 use Rattle.search.specs.declared.Best.{Best}
 use Rattle.search.specs.declared.Descent.{Descent}
-use Rattle.search.specs.Landing.{best_of, Ends, Place, PlaceOf, Lands}
+use Rattle.pool.specs.Lent.{Lent}
+use Rattle.search.specs.Landing.{best_of, Ends, Place, PlaceOf, Lands, Descends}
 use Rattle.search.proofs.Places.{plug_stands, plug-nodes, nodes-node, leads-length, shared-plug, get_plug}
 
 -- The number that a search ends at, where w is the number of its slot
@@ -192,9 +194,9 @@ module _ (t : Tree) where
       omega (arith, p.above-is, e.bytes, leads-length p.context a k p.y p.r p.leads)
 
 -- The calls: refusals 1 and 2, and what they come to where both tests pass
-pub fits_not : (key : Key) → 4096 < length key → fits key ≡ false
+pub fits_not : (key : Key) → ¬ (length key ≤ key_max) → fits key ≡ false
 unfolding fits key_max
-fits_not key h = lt-leb _ _ h
+fits_not key h = lt-leb _ _ (omega (arith, h))
 
 pub fits_well : (key : Key) → length key ≤ key_max → fits key ≡ true
 unfolding fits
@@ -213,7 +215,7 @@ module _ (ws bs key : List ℕ) where
   unfolding shared_call
   shared-refused h = rw (no-rule ws bs h)
 
-  module _ (rule : PoolRule ws bs) (long : 4096 < length key) where
+  module _ (rule : PoolRule ws bs) (long : ¬ (length key ≤ key_max)) where
     pub get_long : refusal 2 ≡ get_call (pool_tree ws bs) key
     unfolding get_call
     get_long = rw ((rule-tree ws bs rule).1, fits_not key long, get_call)
@@ -233,10 +235,9 @@ pub record Known (ws bs key : List ℕ) (d : Descent) : Type 0 where
   pub short : length key ≤ key_max
   pub lands : (t : Tree) → pool_tree ws bs ≡ some t → Lands t key d
 
--- It knows this from what it requires, from a slice that holds bytes and from what `descend` ensures.
-pub knows : {ws bs key : List ℕ} {d : Descent} → PoolRule ws bs → length key ≤ key_max → ((i : ℕ) → Fits w8 (get_or bs i 0)) → ((t : Tree) → pool_tree ws bs ≡ some t → Lands t key d)
-    → Known ws bs key d
-knows {ws} {bs} rule short h lands = record { rule = rule; bytes = bytes_of bs h; short = short; lands = lands }
+-- It knows this from what `descend` ensures.
+pub knows : {l : Lent} {key : Key} {d : Descent} → Descends l key d → Known l.words l.labels key d
+knows w = record { rule = w.whole.rule; bytes = w.whole.bytes; short = w.short; lands = w.lands }
 
 module _ {ws bs key : List ℕ} {d : Descent} (w : Known ws bs key d) where
   -- the pool's tree, and where the search has come to in it, where s is the way of ending
@@ -268,7 +269,7 @@ module _ {ws bs key : List ℕ} {d : Descent} (w : Known ws bs key d) where
       let g = get_place holds key s d.at.0 d.parent.0 d.above (place s e) in
       rw (tree_is, fits_well key w.short, get_call, g, ← looked-is) h
 
-  pub longest-is : (b : Best) → d.best ≡ b → (told : Told) → told ≡ longest_told d.looked.0 (best_of b)
+  pub longest-is : (b : Maybe Best) → d.best ≡ b → (told : Told) → told ≡ longest_told d.looked.0 (best_of b)
       → told ≡ longest_call (pool_tree ws bs) key
   unfolding longest_call
   longest-is b e told h =
@@ -286,14 +287,38 @@ module _ {ws bs key : List ℕ} {d : Descent} (w : Known ws bs key d) where
   pub shared-within : (s : Stop) → d.stop ≡ s → shared_at s d.above (length key) ≤ length key
   shared-within s e = shared-most tree key s d.at.0 d.parent.0 d.above (place s e)
 
--- The number at a slot, and none
-module _ (n : ℕ) where
-  pub number-none : (h v : ℕ) → h ≡ 0 → refusal_at 3 n ≡ number_told n (num_of h v)
-  unfolding num_of number_told
-  number-none zero v e = refl
-  number-none (suc h) v e = absurd (omega arith)
+-- The ways of ending at a node with the whole key, those at the end of the query, and those where nothing is found
+abbrev pub Arrived : Stop → Type 0
+Arrived s = (s ≡ Stop.Root) ⊎ (s ≡ Stop.Same)
 
-  pub number-some : (h v u : ℕ) → (h ≡ 0 → ⊥) → u ≡ v → done (u ∷ n ∷ []) ≡ number_told n (num_of h v)
-  unfolding num_of number_told
-  number-some zero v u ne e = absurd (ne refl)
-  number-some (suc h) v u ne e = ap (λ (x : ℕ). done (x ∷ n ∷ [])) e
+abbrev pub Spent : Stop → Type 0
+Spent s = (s ≡ Stop.Root) ⊎ ((s ≡ Stop.Same) ⊎ ((m : ℕ) × (s ≡ Stop.Inside m)))
+
+abbrev pub Missed : Stop → Type 0
+Missed s = (s ≡ Stop.Gap) ⊎ (((m : ℕ) × (s ≡ Stop.Inside m)) ⊎ ((m : ℕ) × (s ≡ Stop.Fork m)))
+
+module _ {ws bs key : List ℕ} {d : Descent} (w : Known ws bs key d) where
+  pub arrived_slot : Arrived d.stop → WordsIn ws d.at.0
+  arrived_slot (inl e) = got_slot w Stop.Root e tt
+  arrived_slot (inr e) = got_slot w Stop.Same e tt
+
+  pub arrived_got : Arrived d.stop → (told : Told) → told ≡ number_told d.looked.0 (num_at ws d.at.0) → told ≡ get_call (pool_tree ws bs) key
+  unfolding got_at
+  arrived_got (inl e) told h = got_is w Stop.Root e told h
+  arrived_got (inr e) told h = got_is w Stop.Same e told h
+
+  pub missed_got : Missed d.stop → refusal_at 3 d.looked.0 ≡ get_call (pool_tree ws bs) key
+  unfolding got_at number_told
+  missed_got (inl e) = got_is w Stop.Gap e _ refl
+  missed_got (inr (inl e)) = got_is w (Stop.Inside e.0) e.1 _ refl
+  missed_got (inr (inr e)) = got_is w (Stop.Fork e.0) e.1 _ refl
+
+  pub spent_shared : Spent d.stop → done (length key ∷ d.looked.0 ∷ []) ≡ shared_call (pool_tree ws bs) key
+  unfolding shared_at
+  spent_shared (inl e) = shared-is w Stop.Root e _ refl
+  spent_shared (inr (inl e)) = shared-is w Stop.Same e _ refl
+  spent_shared (inr (inr e)) = shared-is w (Stop.Inside e.0) e.1 _ refl
+
+  pub best_longest : (b : Best) → d.best ≡ Some b → done (b.length ∷ b.number.0 ∷ d.looked.0 ∷ []) ≡ longest_call (pool_tree ws bs) key
+  unfolding longest_told
+  best_longest b e = longest-is w (Some b) e _ refl

@@ -12,6 +12,8 @@ use Rattle.tree.proofs.Judge.{never}
 use Rattle.tree.proofs.Order.{cmp_lt, cmp_gt, cmp_refl}
 use Rattle.tree.proofs.Parts.{part_same, part-key_ends, part-label_ends, part-fork}
 use Rattle.search.specs.declared.Stop.{Stop}
+use Rattle.std.specs.Prelude.{Some, None}
+use Rattle.std.specs.Prelude.{Option as Maybe}
 use Rattle.search.specs.declared.Best.{Best}
 use Rattle.search.specs.declared.Descent.{Descent}
 use Rattle.search.specs.Landing.{descent_of, best_of, Ends, PlaceOf, Lands}
@@ -85,13 +87,13 @@ place_end t (a ∷ k) stop at up above p =
     rw (p.tree, end-plug p.context p.forest a k p.y p.r p.leads, ← p.at-is, ← p.parent_is, ← p.above-is)
     (end_is stop p.forest at up above p.y p.r p.ends)
 
-best_one : (b c : Best) → best_of b ≡ best_of c → b ≡ c
-best_one Best.None Best.None e = refl
-best_one Best.None (Best.At n v) e = never (cc)
-best_one (Best.At m u) Best.None e = never (cc)
-best_one (Best.At m u) (Best.At n v) e =
-    let pair : ◌≡◌ {A = ℕ × ℕ} (m, u.0) (n, v.0) = cc in
-    λ i. Best.At (pair i).0 (record { 0 = (pair i).1 })
+best_one : (b c : Maybe Best) → best_of b ≡ best_of c → b ≡ c
+best_one None None e = refl
+best_one None (Some y) e = never (cc)
+best_one (Some x) None e = never (cc)
+best_one (Some x) (Some y) e =
+    let pair : ◌≡◌ {A = ℕ × ℕ} (x.length, x.number.0) (y.length, y.number.0) = cc in
+    λ i. Some (record { length = (pair i).0; number = record { 0 = (pair i).1 } })
 
 -- Two descents that end alike, with the same longest prefix and as many nodes looked at, are one.
 pub descend_determined : {t : Tree} {key : Key} (d e : Descent) → Lands t key d → Lands t key e → d ≡ e

@@ -1,32 +1,18 @@
 -- How what is left of a key meets a label: by the lengths, as the code finds it, and what each meeting says. Assumes nothing.
 use mathlib.Core.Path.{◌≡◌, refl, sym, ap, ◌∙◌}
 use mathlib.Core.List.{List, [], ◌∷◌, ◌++◌}
-use mathlib.Core.Option.{Option, some}
-use Prim.Native.Nat.{Ordering}
-use Prim.Native.Nat.{ℕ, zero, suc, ◌-◌, ◌≤◌, ◌<◌, compare}
+use Prim.Native.Nat.{ℕ, zero, suc, ◌-◌, ◌≤◌, ◌<◌}
 use native.Mathlib.Omega.{arith}
 use lib.Dec.{eqb}
 use lib.ListN.{length, get_or, take, drop, length-append, length-drop}
 use lib.Seq.{drop-cons, take_all}
 use borrow.Author.Tests.{eq-eqb, ne_eqb}
 use Rattle.tree.specs.Key.{Key, pick, common, key_ends, fork, part}
-use Rattle.tree.specs.Search.{met}
-use Rattle.tree.proofs.Order.{less, even, more, cmp, cmp_refl}
+use Rattle.tree.proofs.Order.{less, even, more, cmp, cmp_lt, cmp_gt, cmp_refl}
 use Rattle.tree.proofs.Parts.{alike, inside, beyond, apart, parted}
-use Rattle.slots.specs.Layout.{bytes_for, num_of, len_of, first_of, label_of}
+use Rattle.slots.specs.Layout.{bytes_for, len_of, first_of, label_of}
 use Rattle.search.specs.declared.Meeting.{Meeting}
 use Rattle.search.specs.Landing.{meeting_of, InPool}
-
--- The longest prefix at a slot with a number, and at one without
-pub met-none : (h v n : ℕ) (best : Option (ℕ × ℕ)) → h ≡ 0 → best ≡ met n (num_of h v) best
-unfolding num_of met
-met-none zero v n best e = refl
-met-none (suc h) v n best e = absurd (omega arith)
-
-pub met_some : (h v n u : ℕ) (best : Option (ℕ × ℕ)) → (h ≡ 0 → ⊥) → u ≡ v → some (n, u) ≡ met n (num_of h v) best
-unfolding num_of met
-met_some zero v n u best ne e = absurd (ne refl)
-met_some (suc h) v n u best ne e = cc
 
 -- What two keys share, by how they part
 common-same : (k : Key) → common k k ≡ length k
@@ -99,9 +85,6 @@ meeting_runs : (a : ℕ) (k : Key) (b : ℕ) (l : Key) → a ≡ b → by_length
 unfolding common
 meeting_runs a k b l e = rw (e, cmp_refl b, common) (sym (meeting_same b k l _ refl))
 
-even_means : (a b : ℕ) → Ordering.eq ≡ compare a b → a ≡ b
-even_means a b h = elim (cmp a b) [ less i e ↦ cc | even i e ↦ i | more i e ↦ cc ]
-
 -- A label that is not empty starts with its slot's first byte.
 label-starts : (ws bs : List ℕ) (c : ℕ) → InPool ws bs c → label_of ws bs c ≡ first_of bs c ∷ drop 1 (label_of ws bs c)
 label-starts ws bs c i = go (len_of ws c) (drop (bytes_for c) bs) (drop-cons bs (bytes_for c) 0 (omega (arith, i.labels))) i.some
@@ -112,16 +95,16 @@ label-starts ws bs c i = go (len_of ws c) (drop (bytes_for c) bs) (drop-cons bs 
 
 -- The key from p on meets the label of slot c, where b is that label's first byte.
 module _ (ws bs key : List ℕ) (c p b : ℕ) (i : InPool ws bs c) (left : p < length key) (first : b ≡ first_of bs c) where
-  pub meets_below : Ordering.lt ≡ compare (get_or key p 0) b → Meeting.Before ≡ meeting_of (drop p key) (label_of ws bs c)
-  meets_below e = rw (drop-cons key p 0 left, label-starts ws bs c i, ← first, ← e, meeting_of)
+  pub meets_below : get_or key p 0 < b → Meeting.Before ≡ meeting_of (drop p key) (label_of ws bs c)
+  meets_below h = rw (drop-cons key p 0 left, label-starts ws bs c i, ← first, cmp_lt _ _ h, meeting_of)
 
-  pub meets_above : Ordering.gt ≡ compare (get_or key p 0) b → Meeting.Past ≡ meeting_of (drop p key) (label_of ws bs c)
-  meets_above e = rw (drop-cons key p 0 left, label-starts ws bs c i, ← first, ← e, meeting_of)
+  pub meets_above : b < get_or key p 0 → Meeting.Past ≡ meeting_of (drop p key) (label_of ws bs c)
+  meets_above h = rw (drop-cons key p 0 left, label-starts ws bs c i, ← first, cmp_gt _ _ h, meeting_of)
 
   -- the two runs as the code compares them
-  pub meets_runs : Ordering.eq ≡ compare (get_or key p 0) b → (rest label : Key) (m : ℕ) → rest ≡ drop p key → label ≡ label_of ws bs c → m ≡ common rest label
+  pub meets_runs : get_or key p 0 ≡ b → (rest label : Key) (m : ℕ) → rest ≡ drop p key → label ≡ label_of ws bs c → m ≡ common rest label
       → by_lengths m (length rest) (length label) ≡ meeting_of (drop p key) (label_of ws bs c)
-  meets_runs e rest label m er el em = rw (em, er, el, drop-cons key p 0 left, label-starts ws bs c i, ← first) (meeting_runs _ _ _ _ (even_means _ _ e))
+  meets_runs e rest label m er el em = rw (em, er, el, drop-cons key p 0 left, label-starts ws bs c i, ← first) (meeting_runs _ _ _ _ e)
 
 -- a run to the end of the key
 pub run_on : (key : List ℕ) (p : ℕ) → take (length key - p) (drop p key) ≡ drop p key

@@ -1,14 +1,17 @@
 -- Where the search for a key ends in a tree, as the code tells it.
-use Rattle.std.specs.Prelude.{◌≡◌, List, [], ◌∷◌, ◌++◌, length}
+use Rattle.std.specs.Prelude.{◌≡◌, List, [], ◌∷◌, ◌++◌, length, Some, None}
+use Rattle.std.specs.Prelude.{Option as Maybe}
 use Rattle.std.proofs.Math.Option.{Option, none, some}
 use Prim.Native.Nat.{Ordering}
 use Prim.Native.Nat.{ℕ, suc, ◌≤◌, compare}
-use Rattle.tree.specs.Key.{Key, same, key_ends, label_ends, fork, part}
+use Rattle.tree.specs.Key.{Key, key_max, same, key_ends, label_ends, fork, part}
 use Rattle.tree.specs.Map.{Num}
 use Rattle.tree.specs.Tree.{Forest, node, Tree, Above}
 use Rattle.tree.specs.Search.{longest_t, looked_t}
 use Rattle.tree.specs.Context.{Context, plug, depth, Leads, before, parent}
 use Rattle.slots.specs.Layout.{WordsIn, RoomIn, len_of}
+use Rattle.pool.specs.Lent.{Lent, tree_in}
+use Rattle.pool.specs.Whole.{Whole}
 use Rattle.search.specs.declared.Meeting.{Meeting}
 use Rattle.search.specs.declared.Stop.{Stop}
 use Rattle.search.specs.declared.Best.{Best}
@@ -39,7 +42,7 @@ meeting_of (y ∷ k) (b ∷ l) =
     ]
 
 -- A descent by its parts
-abbrev pub descent_of : Stop → (at parent above : ℕ) → Best → (looked : ℕ) → Descent
+abbrev pub descent_of : Stop → (at parent above : ℕ) → Maybe Best → (looked : ℕ) → Descent
 descent_of stop at parent above best looked =
     record {
       stop = stop;
@@ -51,9 +54,9 @@ descent_of stop at parent above best looked =
     }
 
 -- The code's longest prefix as the definition has it
-abbrev pub best_of : Best → Option (ℕ × ℕ)
-best_of Best.None = none
-best_of (Best.At n v) = some (n, v.0)
+abbrev pub best_of : Maybe Best → Option (ℕ × ℕ)
+best_of None = none
+best_of (Some x) = some (x.length, x.number.0)
 
 -- How the forest f begins where y ∷ r is left of the key
 pub record SameAt (f : Forest) (y : ℕ) (r : Key) : Type 0 where
@@ -124,3 +127,9 @@ pub record Lands (t : Tree) (key : Key) (d : Descent) : Type 0 where
   pub place : PlaceOf t key d.stop d.at.0 d.parent.0 d.above
   pub best : best_of d.best ≡ longest_t t key
   pub looked : d.looked.0 ≡ looked_t t key
+
+-- What a descent in a tested pool, for a tested key, says: also that both are what they were tested for.
+pub record Descends (l : Lent) (key : Key) (d : Descent) : Type 0 where
+  pub whole : Whole l
+  pub short : length key ≤ key_max
+  pub lands : (t : Tree) → tree_in l ≡ some t → Lands t key d

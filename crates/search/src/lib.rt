@@ -2,21 +2,18 @@
 #![tactic(auto)]
 
 ghost use Rattle.std.specs.Prelude.{◌≡◌, ◌+◌, ◌*◌, ◌≤◌, ◌<◌, length, drop};
-ghost use Rattle.tree.specs.Key.{key_max};
-ghost use Rattle.tree.specs.Tree.{Tree};
 ghost use Rattle.tree.specs.Search.{met};
 ghost use Rattle.tree.specs.Told.{got_told};
 ghost use Rattle.tree.specs.Calls.{number_told};
-ghost use Rattle.std.proofs.Math.Option.{some};
 ghost use Rattle.slots.specs.Layout.{WordsIn, label_of, num_at};
-ghost use Rattle.pool.specs.Pool.{pool_tree};
-ghost use Rattle.pool.specs.Rule.{PoolRule};
 ghost use Rattle.pool.specs.Lent.{lent};
 ghost use Rattle.search.specs.Post.{GetAllows, LongestAllows, SharedAllows};
-ghost use Rattle.search.specs.Landing.{descent_of, meeting_of, best_of, Lands, InPool};
+ghost use Rattle.search.specs.Landing.{descent_of, meeting_of, best_of, Descends, InPool};
 
-use label::First;
-use tree::{Got, KEY_MAX, Looked, Prefixed, RuleNo, Sharing, Slot};
+use pool::Pool;
+use slots::put::stored_at;
+use std::cmp::Ordering;
+use tree::{Answer, Got, Key, Looked, Prefixed, Refusal, RuleNo, Sharing, Slot};
 
 // How what is left of a key meets the label of a node.
 #[derive(Clone, Copy)]
@@ -50,36 +47,36 @@ pub enum Stop {
     Fork(usize),
 }
 
-// The longest stored prefix so far: its length and number.
+// A stored prefix of the key: its length and number.
 #[derive(Clone, Copy)]
-pub enum Best {
-    None,
-    At(usize, RuleNo),
+pub struct Best {
+    pub length: usize,
+    pub number: RuleNo,
 }
 
-// Where a search came to: the slot, its parent, the bytes matched above the slot's label, and how many nodes it looked
-// at. The empty key ends at the root, which has neither parent nor bytes above: both are 0 there.
+// Where a search came to: the slot, its parent, the bytes matched above the slot's label, the longest stored prefix, and how many
+// nodes it looked at. The empty key ends at the root, which has neither parent nor bytes above: both are 0 there.
 #[derive(Clone, Copy)]
 pub struct Descent {
     pub stop: Stop,
     pub at: Slot,
     pub parent: Slot,
     pub above: usize,
-    pub best: Best,
+    pub best: Option<Best>,
     pub looked: Looked,
 }
 
-// How the key from p on meets the label of slot c.
+// How the key from p on meets the label of slot c. Counterpart: `strip_common_prefix_and_len`, with `cmp_first_item` before it.
 fn meet(labels: &[u8], words: &[u32], c: Slot, key: &[u8], p: usize) -> Meeting
     requires { InPool words.now labels.now c.0 × (p < length key.now) }
     ensures { let ws = words.now in
         let bs = labels.now in
         result ≡ meeting_of (drop p key.now) (label_of ws bs c.0) }
 {
-    match label::cmp_first_item(key[p], slots::first_at(labels, c)) {
-        First::Below => return Meeting::Before,
-        First::Above => return Meeting::Past,
-        First::Same => {}
+    match key[p].cmp(&slots::first_at(labels, c)) {
+        Ordering::Less => return Meeting::Before,
+        Ordering::Greater => return Meeting::Past,
+        Ordering::Equal => {}
     }
     let label = slots::label_at(labels, words, c);
     let rest = &key[p..];
@@ -96,19 +93,26 @@ fn meet(labels: &[u8], words: &[u32], c: Slot, key: &[u8], p: usize) -> Meeting
     Meeting::Fork(m)
 }
 
-// The longest stored prefix, once the label of slot c has matched whole and n bytes with it.
-fn best_at(words: &[u32], c: Slot, n: usize, best: Best) -> Best
+// The longest stored prefix, once the label of slot c has matched whole and `length` bytes with it.
+fn best_at(words: &[u32], c: Slot, length: usize, best: Option<Best>) -> Option<Best>
     requires { WordsIn words.now c.0 }
-    ensures { best_of result ≡ met n (num_at words.now c.0) (best_of best) }
+    ensures { best_of result ≡ met length (num_at words.now c.0) (best_of best) }
 {
-    if slots::has_at(words, c) == 0 {
-        return best;
+    match stored_at(words, c) {
+        Some(number) => Some(Best { length, number }),
+        None => best,
     }
-    Best::At(n, slots::number_at(words, c))
 }
 
 // A descent by its parts.
-fn landed(stop: Stop, at: Slot, parent: Slot, above: usize, best: Best, looked: usize) -> Descent
+fn landed(
+    stop: Stop,
+    at: Slot,
+    parent: Slot,
+    above: usize,
+    best: Option<Best>,
+    looked: usize,
+) -> Descent
     ensures { result ≡ descent_of stop at.0 parent.0 above best looked }
 {
     Descent {
@@ -124,14 +128,14 @@ fn landed(stop: Stop, at: Slot, parent: Slot, above: usize, best: Best, looked: 
 // The search, as all calls make it. Counterparts: `get`, `longest_common_prefix_len`, the way down of `insert`, `remove`.
 // Each node that it meets is counted, the root first: `looked` are those before slot c. No two are in one slot, so they
 // are at most c.
-pub fn descend(labels: &[u8], words: &[u32], key: &[u8]) -> Descent
-    requires { PoolRule words.now labels.now × (length key.now ≤ key_max) }
-    ensures { let ws = words.now in
-        let bs = labels.now in
-        ((t : Tree) → pool_tree ws bs ≡ some t → Lands t key.now result) }
+pub fn descend(pool: &Pool<'_>, key: &Key<'_>) -> Descent
+    ensures { Descends pool.now key.now result }
 {
+    let labels = pool.labels;
+    let words = pool.words;
+    let key = key.bytes;
     let n = slots::nodes_in(words);
-    let mut best = best_at(words, Slot(0), 0, Best::None);
+    let mut best = best_at(words, Slot(0), 0, None);
     let mut looked: usize = 1;
     if key.len() == 0 {
         return landed(Stop::Root, Slot(0), Slot(0), 0, best, looked);
@@ -170,104 +174,83 @@ pub fn descend(labels: &[u8], words: &[u32], key: &[u8]) -> Descent
 }
 
 // The number at a slot, which a search came to.
-fn number_in(words: &[u32], at: Slot, looked: Looked) -> Got
+fn number_in(words: &[u32], at: Slot, looked: Looked) -> Answer<Got>
     requires { WordsIn words.now at.0 }
     ensures { got_told result ≡ number_told looked.0 (num_at words.now at.0) }
 {
-    if slots::has_at(words, at) == 0 {
-        return Got::NotFound(looked);
+    match stored_at(words, at) {
+        Some(number) => Ok(Got { number, looked }),
+        None => Err(Refusal::NotFound(looked)),
     }
-    Got::Number(slots::number_at(words, at), looked)
 }
 
-// `get` in a pool that has been tested, of a key that is not too long.
-pub fn get_in(labels: &[u8], words: &[u32], key: &[u8]) -> Got
-    requires { PoolRule words.now labels.now × (length key.now ≤ key_max) }
-    ensures { GetAllows key.now result (lent labels.now words.now) }
+// `get` in a pool that has been tested, of a key that has been.
+pub fn get_in(pool: &Pool<'_>, key: &Key<'_>) -> Answer<Got>
+    ensures { GetAllows key.now result pool.now }
 {
-    let d = descend(labels, words, key);
+    let d = descend(pool, key);
     let at = d.at;
     let looked = d.looked;
-    let stop = d.stop;
-    match stop {
-        Stop::Root => number_in(words, at, looked),
-        Stop::Gap => Got::NotFound(looked),
-        Stop::Same => number_in(words, at, looked),
-        Stop::Inside(_) => Got::NotFound(looked),
-        Stop::Fork(_) => Got::NotFound(looked),
+    match d.stop {
+        Stop::Root | Stop::Same => number_in(pool.words, at, looked),
+        Stop::Gap | Stop::Inside(_) | Stop::Fork(_) => Err(Refusal::NotFound(looked)),
     }
 }
 
 // The number at exactly the key.
-pub fn get(labels: &[u8], words: &[u32], key: &[u8]) -> Got
+pub fn get(labels: &[u8], words: &[u32], key: &[u8]) -> Answer<Got>
     ensures { GetAllows key.now result (lent labels.now words.now) }
 {
-    if !pool::is_pool(labels, words) {
-        return Got::NotPool;
-    }
-    if key.len() > KEY_MAX {
-        return Got::TooLong;
-    }
-    get_in(labels, words, key)
+    let pool = Pool::new(labels, words)?;
+    let key = Key::new(key)?;
+    get_in(&pool, &key)
 }
 
-// `longest` in a pool that has been tested, of a query that is not too long.
-pub fn longest_in(labels: &[u8], words: &[u32], query: &[u8]) -> Prefixed
-    requires { PoolRule words.now labels.now × (length query.now ≤ key_max) }
-    ensures { LongestAllows query.now result (lent labels.now words.now) }
+// `longest` in a pool that has been tested, of a query that has been.
+pub fn longest_in(pool: &Pool<'_>, query: &Key<'_>) -> Answer<Prefixed>
+    ensures { LongestAllows query.now result pool.now }
 {
-    let d = descend(labels, words, query);
+    let d = descend(pool, query);
     let looked = d.looked;
-    let best = d.best;
-    match best {
-        Best::None => Prefixed::NotFound(looked),
-        Best::At(n, v) => Prefixed::Longest(n, v, looked),
+    match d.best {
+        Some(best) => Ok(Prefixed {
+            length: best.length,
+            number: best.number,
+            looked,
+        }),
+        None => Err(Refusal::NotFound(looked)),
     }
 }
 
 // Length and number of the longest stored key that starts the query.
-pub fn longest(labels: &[u8], words: &[u32], query: &[u8]) -> Prefixed
+pub fn longest(labels: &[u8], words: &[u32], query: &[u8]) -> Answer<Prefixed>
     ensures { LongestAllows query.now result (lent labels.now words.now) }
 {
-    if !pool::is_pool(labels, words) {
-        return Prefixed::NotPool;
-    }
-    if query.len() > KEY_MAX {
-        return Prefixed::TooLong;
-    }
-    longest_in(labels, words, query)
+    let pool = Pool::new(labels, words)?;
+    let query = Key::new(query)?;
+    longest_in(&pool, &query)
 }
 
-// `shared` in a pool that has been tested, of a query that is not too long.
-pub fn shared_in(labels: &[u8], words: &[u32], query: &[u8]) -> Sharing
-    requires { PoolRule words.now labels.now × (length query.now ≤ key_max) }
-    ensures { SharedAllows query.now result (lent labels.now words.now) }
+// `shared` in a pool that has been tested, of a query that has been.
+pub fn shared_in(pool: &Pool<'_>, query: &Key<'_>) -> Answer<Sharing>
+    ensures { SharedAllows query.now result pool.now }
 {
-    let d = descend(labels, words, query);
+    let d = descend(pool, query);
     let above = d.above;
     let looked = d.looked;
-    let stop = d.stop;
-    match stop {
-        Stop::Root => Sharing::Length(query.len(), looked),
-        Stop::Gap => Sharing::Length(above, looked),
-        Stop::Same => Sharing::Length(query.len(), looked),
-        Stop::Inside(_) => Sharing::Length(query.len(), looked),
-        Stop::Fork(m) => {
-            let n = above + m;
-            Sharing::Length(n, looked)
-        }
-    }
+    let length = match d.stop {
+        Stop::Root | Stop::Same | Stop::Inside(_) => query.bytes.len(),
+        Stop::Gap => above,
+        Stop::Fork(m) => above + m,
+    };
+    Ok(Sharing { length, looked })
 }
 
 // The greatest number of leading bytes that the query shares with any stored key.
-pub fn shared(labels: &[u8], words: &[u32], query: &[u8]) -> Sharing
+pub fn shared(labels: &[u8], words: &[u32], query: &[u8]) -> Answer<Sharing>
     ensures { SharedAllows query.now result (lent labels.now words.now) }
 {
-    if !pool::is_pool(labels, words) {
-        return Sharing::NotPool;
-    }
-    if query.len() > KEY_MAX {
-        return Sharing::TooLong;
-    }
-    shared_in(labels, words, query)
+    let pool = Pool::new(labels, words)?;
+    let query = Key::new(query)?;
+    shared_in(&pool, &query)
 }

@@ -6,13 +6,17 @@ use Prim.Native.Nat.{ℕ, zero, suc, ◌+◌, ◌-◌, ◌/◌, ◌%◌, ◌≤�
 use native.Mathlib.Omega.{arith}
 use lib.ListN.{length, get_or, set, take, drop, length-set, length-take, length-drop, length-append, get_or-append}
 use lib.Seq.{sets, length-sets, get_or-set_same, get_or-set_other, get_or-take, get_or-drop, get_or-append-add, ext_get_or, take-take, length-take-le}
+use Rattle.std.specs.Prelude.{Option, Some, None, is_some}
+use Rattle.std.specs.Int.{from_bool}
+use Rattle.std.specs.Option.{unwrap_or}
+use Rattle.tree.specs.declared.RuleNo.{RuleNo}
 use Rattle.tree.specs.Map.{Num}
 use Rattle.tree.specs.Tree.{keys_w}
 use borrow.Rule.Slice.PartMut.{put_mid, Post-is}
 use Rattle.label.proofs.Moves.{by_lt}
 use Rattle.slots.specs.Layout.{used_words, label_room, word_range, bytes_for, WordsIn, RoomIn, field_at, start_field, len_field, has_field, low_field, span_field, high_field, start_of, len_of, has_of, number_of, span_of, label_of, num_of}
 use Rattle.slots.specs.Records.{Rec, rec_at}
-use Rattle.slots.specs.Bare.{bare_at, number_word, number_put, fields_put, head_put, bare_of, Filled}
+use Rattle.slots.specs.Bare.{bare_at, stored_of, number_word, number_put, fields_put, head_put, bare_of, Filled}
 
 -- m places of a list from place a on
 abbrev pub block : List ℕ → ℕ → ℕ → List ℕ
@@ -143,10 +147,6 @@ fields_set ws ws₁ ws₂ ws₃ vs i start len has number a b c d =
     let e₂ : suc (field_at i len_field) ≡ field_at i has_field = omega arith in
     rw (d, c, b, a) (simp (e₁, e₂))
 
-pub head-set : (ws vs : List ℕ) (i start len has number : ℕ) (w : Num) → vs ≡ fields_put ws i start len has number
-    → has ≡ keys_w w → number ≡ number_word w → vs ≡ head_put ws i start len w
-head-set ws vs i start len has number w e eh en = rw (← eh, ← en) e
-
 pub head-span : (ws : List ℕ) (at start len : ℕ) (w : Num) (i : ℕ) → span_of (head_put ws at start len w) i ≡ span_of ws i
 head-span ws at start len w = fields_span ws at start len (keys_w w) (number_word w)
 
@@ -162,14 +162,15 @@ pub label-put_eq : (bs : List ℕ) (i : ℕ) (l ys : List ℕ) → ys ≡ l → 
 unfolding label_put
 label-put_eq bs i l ys e = rw (Post-is (bytes_for i) (bytes_for i + length l) bs (omega arith), e)
 
--- has and number of a number that may be missing
-pub nothing_has : (w : Num) → w ≡ none → (0 ≡ keys_w w) × (0 ≡ number_word w)
+-- has and number of a number that may be missing, as the code tells them
+pub stored_has : (s : Option RuleNo) → from_bool (is_some s) ≡ keys_w (stored_of s)
 unfolding keys_w
-nothing_has w e = rw e (refl, refl)
+stored_has None = refl
+stored_has (Some v) = refl
 
-pub number-has : (w : Num) (v : ℕ) → w ≡ some v → (1 ≡ keys_w w) × (v ≡ number_word w)
-unfolding keys_w
-number-has w v e = rw e (refl, refl)
+pub stored_number : (s : Option RuleNo) → (unwrap_or s (record { 0 = 0 })).0 ≡ number_word (stored_of s)
+stored_number None = refl
+stored_number (Some v) = refl
 
 -- A label put, place by place
 module _ (bs : List ℕ) (i : ℕ) (l : List ℕ) (fits : bytes_for i + length l ≤ length bs) where

@@ -1,15 +1,14 @@
 -- Bare records: what a slot says but for its span, and what a bare record's words and label are. A record but for its span is
 -- determined by its node alone.
-use Rattle.std.specs.Prelude.{◌≡◌, List, [], ◌∷◌, ◌++◌, ℕ, suc, ◌+◌, ◌/◌, ◌%◌, length, set, take, drop}
+use Rattle.std.specs.Prelude.{◌≡◌, List, [], ◌∷◌, ◌++◌, ℕ, suc, ◌+◌, ◌/◌, ◌%◌, length, set, take, drop, Option, Some, None}
 use Rattle.std.proofs.Math.Option.{none, some}
 use Rattle.std.proofs.lemmas.List.Edits.{sets}
+use Rattle.tree.specs.declared.RuleNo.{RuleNo}
 use Rattle.tree.specs.Key.{Key}
 use Rattle.tree.specs.Map.{Num}
 use Rattle.tree.specs.Tree.{Forest, nil, node, Tree, keys_w}
 use Rattle.slots.specs.Layout.{SameHead, RoomIn, word_range, field_at, start_field, low_field, high_field, start_of, len_of, has_of, span_of, label_of, num_at}
 use Rattle.slots.specs.Records.{run}
-use Rattle.slots.specs.declared.put.Head.{Head}
-use Rattle.slots.specs.declared.put.Stored.{Stored}
 
 -- A record without its span
 pub record Bare : Type 0 where
@@ -39,9 +38,10 @@ root_bare w = record { start = 0; len = 0; has = keys_w w; num = w; label = [] }
 unfoldable pub bares_t : Tree → List Bare
 bares_t t = root_bare t.num ∷ bares_f 0 t.kids
 
-abbrev pub stored_of : Stored → Num
-stored_of Stored.Nothing = none
-stored_of (Stored.Number v) = some v.0
+-- A number that may be missing, as the code has it
+abbrev pub stored_of : Option RuleNo → Num
+stored_of None = none
+stored_of (Some v) = some v.0
 
 abbrev pub number_word : Num → ℕ
 number_word none = 0
@@ -57,14 +57,6 @@ fields_put ws i start len has number = number_put (sets ws (field_at i start_fie
 
 abbrev pub head_put : (ws : List ℕ) (i start len : ℕ) → Num → List ℕ
 head_put ws i start len w = fields_put ws i start len (keys_w w) (number_word w)
-
--- A slot's words with its span
-pub record HeadOf (h : Head) (start len : ℕ) (w : Num) (span : ℕ) : Type 0 where
-  pub start_is : h.start ≡ start
-  pub len_is : h.len ≡ len
-  pub has-is : h.has ≡ keys_w w
-  pub number_is : h.number.0 ≡ number_word w
-  pub span-is : h.span ≡ span
 
 -- What a slot with the label l and the number w says
 abbrev pub bare_of : (start : ℕ) (l : List ℕ) → Num → Bare

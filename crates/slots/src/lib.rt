@@ -31,20 +31,6 @@ const HIGH: usize = HEAD_WORDS + 5;
 // So many numbers one word tells apart.
 const WORD_RANGE: u64 = 4294967296;
 
-// A word as a place or a length.
-fn wide(x: u32) -> usize
-    ensures { (result ≡ x) × (result < 4294967296) }
-{
-    x as usize
-}
-
-// A word as half of a number.
-fn half(x: u32) -> u64
-    ensures { (result ≡ x) × (result < 4294967296) }
-{
-    x as u64
-}
-
 // How many slots so many label bytes are.
 pub fn slots_in(labels: &[u8]) -> usize
     ensures { result ≡ slots_in labels.now }
@@ -57,7 +43,7 @@ pub fn nodes_in(words: &[u32]) -> usize
     requires { 1 ≤ length words.now }
     ensures { (result ≡ nodes_of words.now) × (result < 4294967296) }
 {
-    wide(words[0])
+    words[0] as usize
 }
 
 // Bytes of the path above the slot's label.
@@ -66,7 +52,7 @@ pub fn start_at(words: &[u32], at: Slot) -> usize
     ensures { (result ≡ start_of words.now at.0) × (result < 4294967296) }
 {
     let i = at.0;
-    wide(words[SLOT_WORDS * i + START])
+    words[SLOT_WORDS * i + START] as usize
 }
 
 // The length of the slot's label.
@@ -75,7 +61,7 @@ pub fn len_at(words: &[u32], at: Slot) -> usize
     ensures { (result ≡ len_of words.now at.0) × (result < 4294967296) }
 {
     let i = at.0;
-    wide(words[SLOT_WORDS * i + LEN])
+    words[SLOT_WORDS * i + LEN] as usize
 }
 
 // 1 if the slot has a number, else 0.
@@ -84,7 +70,7 @@ pub fn has_at(words: &[u32], at: Slot) -> usize
     ensures { (result ≡ has_of words.now at.0) × (result < 4294967296) }
 {
     let i = at.0;
-    wide(words[SLOT_WORDS * i + HAS])
+    words[SLOT_WORDS * i + HAS] as usize
 }
 
 // The slot's number, if it has one: a low word and a high one.
@@ -93,8 +79,8 @@ pub fn number_at(words: &[u32], at: Slot) -> RuleNo
     ensures { result.0 ≡ number_of words.now at.0 }
 {
     let i = at.0;
-    let low = half(words[SLOT_WORDS * i + LOW]);
-    let high = half(words[SLOT_WORDS * i + HIGH]);
+    let low = u64::from(words[SLOT_WORDS * i + LOW]);
+    let high = u64::from(words[SLOT_WORDS * i + HIGH]);
     RuleNo(low + WORD_RANGE * high)
 }
 
@@ -104,7 +90,7 @@ pub fn span_at(words: &[u32], at: Slot) -> usize
     ensures { (result ≡ span_of words.now at.0) × (result < 4294967296) }
 {
     let i = at.0;
-    wide(words[SLOT_WORDS * i + SPAN])
+    words[SLOT_WORDS * i + SPAN] as usize
 }
 
 // The first byte of the slot's label.

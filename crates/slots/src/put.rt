@@ -1,24 +1,22 @@
 // Writing slots: all fields of one slot, or all but its span, and nothing else.
 ghost use Rattle.std.specs.Prelude.{◌≡◌, List, ℕ, ◌+◌, ◌≤◌, ◌<◌, length};
 ghost use Rattle.slots.specs.Layout.{label_room, WordsIn, RoomIn, start_of, len_of, span_of, num_at};
-ghost use Rattle.slots.specs.Bare.{stored_of, head_put, HeadOf, bare_of, bare_at, front_of, back_of, Filled};
+ghost use Rattle.slots.specs.Bare.{stored_of, head_put, bare_of, bare_at, front_of, back_of, Filled};
 ghost use Rattle.slots.specs.Put.{words_put, LabelPut, SlotPut, rec_of};
 
 use crate::{
     LABEL_ROOM, has_at, len_at, number_at, set_has, set_len, set_number, set_span, set_start,
     start_at,
 };
-use label::{copy, move_bytes_down};
 use tree::{RuleNo, Slot};
 
-// The words of a slot: bytes of the path above it, label length, 1 if it has a number and else 0, that number, and the
-// nodes of its subtree, itself included.
+// What a slot says in words: bytes of the path above it, label length, its number, if it has one, and the nodes of its
+// subtree, itself included.
 #[derive(Clone, Copy)]
 pub struct Head {
     pub start: u32,
     pub len: u32,
-    pub has: u32,
-    pub number: RuleNo,
+    pub stored: Option<RuleNo>,
     pub span: u32,
 }
 
@@ -27,10 +25,13 @@ pub fn put_words(words: &mut [u32], at: Slot, head: Head)
     requires { WordsIn words.old at.0 }
     ensures { words.new ≡ words_put words.old at.0 head }
 {
-    set_start(words, at, head.start);
-    set_len(words, at, head.len);
-    set_has(words, at, head.has);
-    set_number(words, at, head.number);
+    put_head(
+        words,
+        at,
+        head.start as usize,
+        head.len as usize,
+        head.stored,
+    );
     set_span(words, at, head.span);
 }
 
@@ -41,7 +42,7 @@ pub fn put_label(labels: &mut [u8], at: Slot, label: &[u8])
 {
     let from = LABEL_ROOM * at.0;
     let to = from + label.len();
-    copy(&mut labels[from..to], label);
+    labels[from..to].copy_from_slice(label);
 }
 
 // Writes one slot whole.
@@ -58,56 +59,15 @@ pub fn put_slot(labels: &mut [u8], words: &mut [u32], at: Slot, head: Head, labe
     put_label(labels, at, label);
 }
 
-// A number that may be missing.
-#[derive(Clone, Copy)]
-pub enum Stored {
-    Nothing,
-    Number(RuleNo),
-}
-
-// Writes a slot's words but for its span.
-pub fn put_head(words: &mut [u32], at: Slot, start: usize, len: usize, stored: Stored)
+// Writes a slot's words but for its span. A missing number is told by two zeros.
+pub fn put_head(words: &mut [u32], at: Slot, start: usize, len: usize, stored: Option<RuleNo>)
     requires { WordsIn words.old at.0 × (start < 4294967296) × (len < 4294967296) }
     ensures { words.new ≡ head_put words.old at.0 start len (stored_of stored) }
 {
     set_start(words, at, start as u32);
     set_len(words, at, len as u32);
-    match stored {
-        Stored::Nothing => {
-            set_has(words, at, 0);
-            set_number(words, at, RuleNo(0));
-        }
-        Stored::Number(number) => {
-            set_has(words, at, 1);
-            set_number(words, at, number);
-        }
-    }
-}
-
-// The words of a slot: a node under a path of `start` bytes, with a label of `len` bytes and its number.
-fn head_of(start: usize, len: usize, stored: Stored, span: usize) -> Head
-    requires { (start < 4294967296) × (len < 4294967296) × (span < 4294967296) }
-    ensures { HeadOf result start len (stored_of stored) span }
-{
-    let start = start as u32;
-    let len = len as u32;
-    let span = span as u32;
-    match stored {
-        Stored::Nothing => Head {
-            start,
-            len,
-            has: 0,
-            number: RuleNo(0),
-            span,
-        },
-        Stored::Number(number) => Head {
-            start,
-            len,
-            has: 1,
-            number,
-            span,
-        },
-    }
+    set_has(words, at, u32::from(stored.is_some()));
+    set_number(words, at, stored.unwrap_or(RuleNo(0)));
 }
 
 // Fills a slot whole, with its span: `put_slot`, told as a splice.
@@ -117,7 +77,7 @@ pub fn put_linked(
     at: Slot,
     start: usize,
     bytes: &[u8],
-    stored: Stored,
+    stored: Option<RuleNo>,
     span: usize,
 )
     requires { let i = at.0 in
@@ -132,23 +92,28 @@ pub fn put_linked(
         let i = at.0 in
         Filled ws bs vs cs i (bare_of start bytes.now (stored_of stored)) × (span_of vs i ≡ span) }
 {
-    let head = head_of(start, bytes.len(), stored, span);
+    let head = Head {
+        start: start as u32,
+        len: bytes.len() as u32,
+        stored,
+        span: span as u32,
+    };
     put_slot(labels, words, at, head, bytes);
 }
 
 // The number at a slot, if it has one.
-pub fn stored_at(words: &[u32], at: Slot) -> Stored
+pub fn stored_at(words: &[u32], at: Slot) -> Option<RuleNo>
     requires { WordsIn words.now at.0 }
     ensures { stored_of result ≡ num_at words.now at.0 }
 {
     if has_at(words, at) == 0 {
-        return Stored::Nothing;
+        return None;
     }
-    Stored::Number(number_at(words, at))
+    Some(number_at(words, at))
 }
 
 // Keeps the first m bytes of a slot's label, with this number or none. The bytes stay where they are, and so does the span.
-pub fn keep_front(words: &mut [u32], at: Slot, m: usize, stored: Stored)
+pub fn keep_front(words: &mut [u32], at: Slot, m: usize, stored: Option<RuleNo>)
     requires { let ws = words.old in
         WordsIn ws at.0 × (m ≤ len_of ws at.0) × (len_of ws at.0 ≤ label_room) }
     ensures { let ws = words.old in
@@ -177,5 +142,5 @@ pub fn keep_back(labels: &mut [u8], words: &mut [u32], at: Slot, m: usize)
     let len = len_at(words, at);
     let stored = stored_at(words, at);
     put_head(words, at, start + m, len - m, stored);
-    move_bytes_down(labels, from + m, from + len, m);
+    labels.copy_within(from + m..from + len, from);
 }

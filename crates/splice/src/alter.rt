@@ -44,9 +44,8 @@ pub fn join_label(labels: &mut [u8], words: &mut [u32], at: Slot, child: Slot)
     let own = slots::len_at(words, at);
     let more = slots::len_at(words, child);
     let stored = stored_at(words, child);
-    let to = LABEL_ROOM * at.0 + own;
     put_head(words, at, start, own + more, stored);
-    label::move_bytes_down(labels, from, from + more, from - to);
+    labels.copy_within(from..from + more, LABEL_ROOM * at.0 + own);
 }
 
 // Makes the slots `from` .. `to` gaps.
@@ -56,10 +55,7 @@ pub fn open_gaps(words: &mut [u32], from: Slot, to: Slot)
         let vs = words.new in
         ((bs : List ℕ) → bytes_for to.0 ≤ length bs → Emptied ws bs vs from.0 to.0) }
 {
-    let end = to.0;
-    let mut i = from.0;
-    while i < end {
+    for i in from.0..to.0 {
         open_gap(words, Slot(i));
-        i += 1;
     }
 }

@@ -35,9 +35,7 @@ pub fn relink(words: &mut [u32], n: usize)
     requires { (words_for n ≤ length words.old) × (n ≤ 16384) }
     ensures { Relinked words.old words.new n }
 {
-    let mut i = n;
-    while 0 < i {
-        i -= 1;
+    for i in (0..n).rev() {
         let span = extent(words, n, Slot(i));
         slots::set_span(words, Slot(i), span as u32);
     }
@@ -110,13 +108,12 @@ pub fn move_slots(labels: &mut [u8], words: &mut [u32], from: Slot, to: Slot, k:
 {
     let from = from.0;
     let to = to.0;
-    label::move_words_up(
-        words,
-        SLOT_WORDS * from + HEAD_WORDS,
-        SLOT_WORDS * to + HEAD_WORDS,
-        SLOT_WORDS * k,
+    let dest = from + k;
+    words.copy_within(
+        SLOT_WORDS * from + HEAD_WORDS..SLOT_WORDS * to + HEAD_WORDS,
+        SLOT_WORDS * dest + HEAD_WORDS,
     );
-    label::move_bytes_up(labels, LABEL_ROOM * from, LABEL_ROOM * to, LABEL_ROOM * k);
+    labels.copy_within(LABEL_ROOM * from..LABEL_ROOM * to, LABEL_ROOM * dest);
 }
 
 // How many bytes of a slot's room its label takes: all of them, where the length is no label's.
@@ -124,11 +121,7 @@ fn label_room(words: &[u32], at: Slot) -> usize
     requires { WordsIn words.now at.0 }
     ensures { LabelIn (len_of words.now at.0) result }
 {
-    let n = slots::len_at(words, at);
-    if n > LABEL_ROOM {
-        return LABEL_ROOM;
-    }
-    n
+    slots::len_at(words, at).min(LABEL_ROOM)
 }
 
 // Moves one slot down: its words, and the bytes of its label.
@@ -141,15 +134,13 @@ fn lower_slot(labels: &mut [u8], words: &mut [u32], from: Slot, to: Slot)
         Filled ws bs vs cs to.0 (bare_at ws bs from.0) }
 {
     let i = from.0;
-    let k = i - to.0;
+    let j = to.0;
     let n = label_room(words, from);
-    label::move_words_down(
-        words,
-        SLOT_WORDS * i + HEAD_WORDS,
-        SLOT_WORDS * (i + 1) + HEAD_WORDS,
-        SLOT_WORDS * k,
+    words.copy_within(
+        SLOT_WORDS * i + HEAD_WORDS..SLOT_WORDS * (i + 1) + HEAD_WORDS,
+        SLOT_WORDS * j + HEAD_WORDS,
     );
-    label::move_bytes_down(labels, LABEL_ROOM * i, LABEL_ROOM * i + n, LABEL_ROOM * k);
+    labels.copy_within(LABEL_ROOM * i..LABEL_ROOM * i + n, LABEL_ROOM * j);
 }
 
 // Keeps slot `from`, as slot `to`, or passes it: one without a label is a gap. Gives the next place.
@@ -178,10 +169,8 @@ pub fn close_gaps(labels: &mut [u8], words: &mut [u32], n: usize) -> usize
     ensures { Closed words.old labels.old words.new labels.new n result }
 {
     let mut to = Slot(1);
-    let mut i: usize = 1;
-    while i < n {
+    for i in 1..n {
         to = sweep_slot(labels, words, Slot(i), to);
-        i += 1;
     }
     to.0
 }

@@ -1,10 +1,10 @@
 -- Split's contract decides its answer and what is left in both pools. Assumes nothing.
 use mathlib.Core.Path.{◌≡◌, sym, ap, ◌∙◌}
 use Rattle.tree.specs.Key.{Key}
-use Rattle.tree.specs.Told.{Told, divided_told}
+use Rattle.std.specs.Prelude.{⊤}
+use Rattle.tree.specs.Told.{Told, Answer, bare_told}
 use Rattle.tree.specs.Calls.{SplitOutcome, refuses_both, leaves_both, split_call}
-use Rattle.tree.specs.declared.Divided.{Divided}
-use Rattle.tree.proofs.OneAnswer.{divided_one}
+use Rattle.tree.proofs.OneAnswer.{bare_one}
 use Rattle.pool.specs.Lent.{Lent, tree_in, size_in}
 use Rattle.pool.proofs.Decided.{lent_same}
 use Rattle.split.specs.Post.{DoesBoth, SplitAllows}
@@ -34,12 +34,12 @@ both_decide was was₂ is is₂ is' is₂' x y (leaves_both d u) p q =
     }
 
 -- And so does the code's answer.
-pub record Decided (a b : Divided) (is is₂ is' is₂' : Lent) : Type 0 where
+pub record Decided (a b : Answer ⊤) (is is₂ is' is₂' : Lent) : Type 0 where
   pub answer : a ≡ b
-  pub agree : Agree (divided_told a) (divided_told b) is is₂ is' is₂'
+  pub agree : Agree (bare_told a) (bare_told b) is is₂ is' is₂'
 
-pub split_determined : (prefix : Key) (was was₂ is is₂ is' is₂' : Lent) (a b : Divided) → SplitAllows prefix a was was₂ is is₂ → SplitAllows prefix b was was₂ is' is₂'
+pub split_determined : (prefix : Key) (was was₂ is is₂ is' is₂' : Lent) (a b : Answer ⊤) → SplitAllows prefix a was was₂ is is₂ → SplitAllows prefix b was was₂ is' is₂'
     → Decided a b is is₂ is' is₂'
 split_determined prefix was was₂ is is₂ is' is₂' a b p q =
-    let e = both_decide was was₂ is is₂ is' is₂' (divided_told a) (divided_told b) (split_call (tree_in was) (size_in was₂) prefix) p q in
-    record { answer = divided_one a b e.told; agree = e }
+    let e = both_decide was was₂ is is₂ is' is₂' (bare_told a) (bare_told b) (split_call (tree_in was) (size_in was₂) prefix) p q in
+    record { answer = bare_one a b e.told; agree = e }

@@ -1,6 +1,7 @@
 -- What split tells and leaves, from where the search has ended. Assumes nothing.
 use mathlib.Core.Path.{◌≡◌, refl, sym, ap, ◌∙◌}
 use mathlib.Core.List.{List, [], ◌∷◌, ◌++◌}
+use mathlib.Core.Logic.{◌⊎◌, inl, inr}
 use mathlib.Core.Option.{none, some}
 use Prim.Native.Nat.{ℕ, suc, ◌+◌, ◌≤◌, ◌<◌}
 use native.Mathlib.Omega.{arith}
@@ -280,7 +281,7 @@ module _ {ws bs : List ℕ} {m at over : ℕ} (x : Landed ws bs (Stop.Inside m) 
             both = b;
             wf = w.0;
             leaves = leaving x.is x.bytes h p.parent_is u refl (sym rest) w.1;
-            leaves-left = refl;
+            leaves-left = refl {a = u};
           }
 
   pub inside_ready : Detachable ws bs at × (m ≤ len_of ws at)
@@ -339,7 +340,7 @@ not_found ws bs ws₂ bs₂ t p slots is short l₂ e =
     rw (is, slots_of_lem ws₂ bs₂ slots l₂, split_call, fits_well p short, e, split_told) (record { said = refl; words = refl; labels = refl; words₂ = refl; labels₂ = refl })
 
 module _ {ws bs key : List ℕ} {d : Descent} (w : Known ws bs key d) {ws₂ bs₂ : List ℕ} {slots : ℕ} (l₂ : Lengths ws₂ bs₂ slots) where
-  pub gap-absent : d.stop ≡ Stop.Gap → MeetBoth (split_call (pool_tree ws bs) (slots_of ws₂ bs₂) key) (refusal 3) ws bs ws₂ bs₂ ws bs ws₂ bs₂
+  gap-absent : d.stop ≡ Stop.Gap → MeetBoth (split_call (pool_tree ws bs) (slots_of ws₂ bs₂) key) (refusal 3) ws bs ws₂ bs₂ ws bs ws₂ bs₂
   gap-absent e = not_found ws bs ws₂ bs₂ (tree w) key slots (tree_is w) w.short l₂ (go key (place w Stop.Gap e))
     where
       go : (q : Key) → PlaceOf (tree w) q Stop.Gap d.at.0 d.parent.0 d.above → split_t (tree w) q ≡ absent
@@ -348,7 +349,7 @@ module _ {ws bs key : List ℕ} {d : Descent} (w : Known ws bs key d) {ws₂ bs�
           split_none (tree w) a k
           (ap (λ (g : Forest). detach_f g a k) p.tree ∙ detach_plug p.context p.forest a k p.y p.r p.leads ∙ detach_above p.forest p.y p.r p.ends)
 
-  pub fork-absent : (m : ℕ) → d.stop ≡ Stop.Fork m → MeetBoth (split_call (pool_tree ws bs) (slots_of ws₂ bs₂) key) (refusal 3) ws bs ws₂ bs₂ ws bs ws₂ bs₂
+  fork-absent : (m : ℕ) → d.stop ≡ Stop.Fork m → MeetBoth (split_call (pool_tree ws bs) (slots_of ws₂ bs₂) key) (refusal 3) ws bs ws₂ bs₂ ws bs ws₂ bs₂
   fork-absent m e = not_found ws bs ws₂ bs₂ (tree w) key slots (tree_is w) w.short l₂ (go key (place w (Stop.Fork m) e))
     where
       go : (q : Key) → PlaceOf (tree w) q (Stop.Fork m) d.at.0 d.parent.0 d.above → split_t (tree w) q ≡ absent
@@ -362,6 +363,10 @@ module _ {ws bs key : List ℕ} {d : Descent} (w : Known ws bs key d) {ws₂ bs�
           (ap (λ (g : Forest). detach_f g a k) (p.tree ∙ ap (plug p.context) n.is)
           ∙ detach_plug p.context f a k p.y p.r p.leads
           ∙ detach_f-fork p.y (n.shared ++ n.x ∷ n.tail) n.num n.kids n.rest p.y p.r n.shared n.z n.left n.x n.tail refl parts)
+
+  pub absent_told : (d.stop ≡ Stop.Gap) ⊎ ((m : ℕ) × (d.stop ≡ Stop.Fork m)) → MeetBoth (split_call (pool_tree ws bs) (slots_of ws₂ bs₂) key) (refusal 3) ws bs ws₂ bs₂ ws bs ws₂ bs₂
+  absent_told (inl e) = gap-absent e
+  absent_told (inr e) = fork-absent e.0 e.1
 
 -- Where the search has ended
 module _ {ws bs key : List ℕ} {d : Descent} (w : Known ws bs key d) where
@@ -393,7 +398,7 @@ module _ (ws bs ws₂ bs₂ key : List ℕ) where
   unfolding split_call
   second-refused r e = rw ((rule-tree ws bs r).1, ← e, split_call) (unchanged (refusal 1))
 
-  pub prefix_long : (slots : ℕ) → PoolRule ws bs → some slots ≡ slots_of ws₂ bs₂ → 4096 < length key
+  pub prefix_long : (slots : ℕ) → PoolRule ws bs → some slots ≡ slots_of ws₂ bs₂ → ¬ (length key ≤ key_max)
       → MeetBoth (split_call (pool_tree ws bs) (slots_of ws₂ bs₂) key) (refusal 2) ws bs ws₂ bs₂ ws bs ws₂ bs₂
   unfolding split_call
   prefix_long slots r e h = rw ((rule-tree ws bs r).1, ← e, split_call, fits_not key h) (unchanged (refusal 2))

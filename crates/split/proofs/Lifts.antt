@@ -1,20 +1,23 @@
 -- Slots carried over into another pool: what stands there then. Assumes nothing.
-use mathlib.Core.Path.{◌≡◌, refl, ap, ◌∙◌}
+use mathlib.Core.Path.{◌≡◌, refl, sym, ap, ◌∙◌}
 use mathlib.Core.List.{List, []}
 use mathlib.Core.Option.{none}
-use Prim.Native.Nat.{ℕ, suc, ◌+◌, ◌-◌, ◌≤◌}
+use Prim.Native.Nat.{ℕ, suc, ◌+◌, ◌-◌, ◌≤◌, ◌<◌}
 use native.Mathlib.Omega.{arith}
 use lib.ListN.{length, get_or, set, take, drop, length-set, length-take, length-drop}
 use lib.Seq.{get_or-set_same, take_all}
+use Rattle.tree.specs.Map.{Num}
 use Rattle.tree.specs.Tree.{keys_w}
 use Rattle.label.proofs.Moves.{by_lt, by_eq}
 use Rattle.slots.specs.Layout.{nodes_word, WordsIn, start_of, len_of, has_of, number_of, span_of, label_of, num_of, num_at}
 use Rattle.slots.specs.Records.{rec_at, root_rec}
+use Rattle.slots.specs.Bare.{stored_of, number_word}
 use Rattle.slots.specs.Put.{rec_of, words_put, WordsPut, SlotPut}
 use Rattle.pool.specs.Rule.{Within}
 use Rattle.slots.specs.declared.put.Head.{Head}
 use Rattle.slots.proofs.Cuts.{label-length}
 use Rattle.pool.proofs.Held.{num-has}
+use Rattle.slots.proofs.Slots.{num_read}
 use Rattle.slots.proofs.Puts.{words-put, rec_same, nodes-put}
 use Rattle.split.specs.Lift.{carried, lowered, topped, Liftable, Lifted, Rooted, Detached, DetachedBelow}
 use Rattle.split.specs.Halved.{Detachable}
@@ -24,9 +27,20 @@ pub label_long : (ws bs l : List ℕ) (at : ℕ) → Within ws bs (at + 1) → l
 label_long ws bs l at w h e = ap length e ∙ label-length ws bs at h (omega (arith, w.labels))
 
 -- The record that the code writes
-pub carried-put : (ws vs cs us ds l : List ℕ) (from to start : ℕ) (h : Head) → h.start ≡ start → h.len ≡ length l → h.has ≡ has_of ws from → h.number.0 ≡ number_of ws from
+pub carried-is : (ws l : List ℕ) (from start : ℕ) (h : Head) → has_of ws from ≤ 1 → h.start ≡ start → h.len ≡ length l → stored_of h.stored ≡ num_at ws from → h.span ≡ span_of ws from
+    → rec_of h l ≡ carried ws from start l
+carried-is ws l from start h one s n w p =
+    let has : keys_w (stored_of h.stored) ≡ has_of ws from = ap keys_w w ∙ sym (num-has (has_of ws from) (number_of ws from) one) in
+    let num : num_of (keys_w (stored_of h.stored)) (number_word (stored_of h.stored)) ≡ num_at ws from = num_read (stored_of h.stored) ∙ w in
+    λ i. record { start = s i; len = n i; has = has i; num = num i; span = p i; label = l }
+
+pub carried-put : (ws vs cs us ds l : List ℕ) (from to start : ℕ) (h : Head) → has_of ws from ≤ 1 → h.start ≡ start → h.len ≡ length l → stored_of h.stored ≡ num_at ws from
     → h.span ≡ span_of ws from → SlotPut vs cs us ds to (rec_of h l) → SlotPut vs cs us ds to (carried ws from start l)
-carried-put ws vs cs us ds l from to start h s n a v p q = rw (s, n, a, v, p) at q
+carried-put ws vs cs us ds l from to start h one s n w p q = rw (carried-is ws l from start h one s n w p) at q
+
+-- A slot of a part can be carried over by itself.
+pub lift_one : {ws bs : List ℕ} {from count base : ℕ} (i : ℕ) → i < count → Liftable ws bs from count base → Within ws bs (from + i + 1)
+lift_one i h l = record { words = omega (arith, l.within.words); labels = omega (arith, l.within.labels) }
 
 -- with the slot's own label
 pub lowered-put : (ws bs l vs cs us ds : List ℕ) (from to base start : ℕ) → Within ws bs (from + 1) → len_of ws from ≤ 255 → l ≡ label_of ws bs from → start ≡ start_of ws from - base
@@ -56,35 +70,35 @@ pub lift_done : {ws bs vs cs us ds : List ℕ} {from to i count base : ℕ} → 
 lift_done {ws} {bs} {vs} {cs} {us} {ds} {from} {to} {i} {count} {base} e l = rw e at l
 
 -- The root's record as the code writes it
-root_rec_lem : (ws us bs : List ℕ) (has number nodes : ℕ) (h : Head) → h.start ≡ 0 → h.len ≡ 0 → h.has ≡ has → h.number.0 ≡ number → h.span ≡ nodes → WordsPut ws us 0 h
-    → rec_at us bs 0 ≡ record { start = 0; len = 0; has = has; num = num_of has number; span = nodes; label = [] }
+root_rec_lem : (ws us bs : List ℕ) (num : Num) (nodes : ℕ) (h : Head) → h.start ≡ 0 → h.len ≡ 0 → stored_of h.stored ≡ num → h.span ≡ nodes → WordsPut ws us 0 h
+    → rec_at us bs 0 ≡ record { start = 0; len = 0; has = keys_w num; num = num; span = nodes; label = [] }
 unfolding rec_at
-root_rec_lem ws us bs has number nodes h s n a v p w =
+root_rec_lem ws us bs num nodes h s n v p w =
     let w₀ : start_of us 0 ≡ 0 = w.start ∙ s in
     let w₁ : len_of us 0 ≡ 0 = w.len ∙ n in
-    let w₂ : has_of us 0 ≡ has = w.has ∙ a in
-    let w₃ : number_of us 0 ≡ number = w.number ∙ v in
+    let w₂ : has_of us 0 ≡ keys_w num = w.has ∙ ap keys_w v in
+    let w₃ : number_of us 0 ≡ number_word num = w.number ∙ ap number_word v in
     let w₄ : span_of us 0 ≡ nodes = w.span ∙ p in
-    rw (w₀, w₁, w₂, w₃, w₄)
+    rw (w₀, w₁, w₂, w₃, w₄, num_read num)
 
 -- The root written, and the slots in use counted
-pub rooted : (ws us vs : List ℕ) (has number nodes : ℕ) (h : Head) → WordsIn ws 0 → h.start ≡ 0 → h.len ≡ 0 → h.has ≡ has → h.number.0 ≡ number → h.span ≡ nodes
-    → us ≡ words_put ws 0 h → vs ≡ set us nodes_word nodes → Rooted ws vs has number nodes
-rooted ws us vs has number nodes h l s n a v p put e =
+pub rooted : (ws us vs : List ℕ) (num : Num) (nodes : ℕ) (h : Head) → WordsIn ws 0 → h.start ≡ 0 → h.len ≡ 0 → stored_of h.stored ≡ num → h.span ≡ nodes
+    → us ≡ words_put ws 0 h → vs ≡ set us nodes_word nodes → Rooted ws vs num nodes
+rooted ws us vs num nodes h l s n v p put e =
     let w = words-put ws us 0 h l put in
     let size : length us ≡ length ws = w.size in
     record {
       len = ap length e ∙ length-set us 0 nodes ∙ size;
       count = ap (λ (x : List ℕ). get_or x 0 0) e ∙ get_or-set_same us 0 nodes 0 (omega arith);
-      root = λ bs. ap (λ (x : List ℕ). rec_at x bs 0) e ∙ nodes-put us bs nodes 0 ∙ root_rec_lem ws us bs has number nodes h s n a v p w;
+      root = λ bs. ap (λ (x : List ℕ). rec_at x bs 0) e ∙ nodes-put us bs nodes 0 ∙ root_rec_lem ws us bs num nodes h s n v p w;
       others = λ bs i k. ap (λ (x : List ℕ). rec_at x bs i) e ∙ nodes-put us bs nodes i ∙ rec_same ws bs us bs i (λ j a b. w.high j (omega arith)) refl;
     }
 
 -- The root's record is that of the slot's number.
-pub detached : (ws bs vs cs us ds es : List ℕ) (at base has number nodes first count : ℕ) → Detachable ws bs at → first ≡ at + 1 → count ≡ span_of ws at - 1 → base ≡ start_of ws at + len_of ws at
-    → has ≡ has_of ws at → number ≡ number_of ws at → nodes ≡ span_of ws at → Lifted ws bs vs cs us ds first 1 count base → Rooted us es has number nodes
+pub detached : (ws bs vs cs us ds es : List ℕ) (at base : ℕ) (num : Num) (nodes first count : ℕ) → Detachable ws bs at → first ≡ at + 1 → count ≡ span_of ws at - 1
+    → base ≡ start_of ws at + len_of ws at → num ≡ num_at ws at → nodes ≡ span_of ws at → Lifted ws bs vs cs us ds first 1 count base → Rooted us es num nodes
     → Detached ws bs vs cs es ds at (start_of ws at + len_of ws at)
-detached ws bs vs cs us ds es at base has number nodes first count d f k b a v n l r =
+detached ws bs vs cs us ds es at base num nodes first count d f k b v n l r =
     record {
       len_w = r.len ∙ l.len_w;
       len_b = l.len_b;
@@ -93,12 +107,10 @@ detached ws bs vs cs us ds es at base has number nodes first count d f k b a v n
       kids = λ i h. r.others ds (1 + i) (omega arith) ∙ l.slots i (omega arith) ∙ cc (ap (λ (x : ℕ). lowered x (rec_at ws bs (first + i))) b, ap (λ (x : ℕ). lowered (start_of ws at + len_of ws at) (rec_at ws bs (x + i))) f);
     }
   where
-    root_is : record { start = 0; len = 0; has = has; num = num_of has number; span = nodes; label = [] } ≡ root_rec (num_at ws at) (span_of ws at - 1)
+    root_is : record { start = 0; len = 0; has = keys_w num; num = num; span = nodes; label = [] } ≡ root_rec (num_at ws at) (span_of ws at - 1)
     root_is =
-        let h : has ≡ keys_w (num_at ws at) = a ∙ num-has (has_of ws at) (number_of ws at) d.has in
-        let w : num_of has number ≡ num_at ws at = cc in
         let s : nodes ≡ suc (span_of ws at - 1) = omega (arith, d.span) in
-        λ i. record { start = 0; len = 0; has = h i; num = w i; span = s i; label = [] }
+        λ i. record { start = 0; len = 0; has = keys_w (v i); num = v i; span = s i; label = [] }
 
 -- the rest of a label, as the code takes it
 pub rest_long : (ws bs l : List ℕ) (at m : ℕ) → Within ws bs (at + 1) → len_of ws at ≤ 255 → l ≡ label_of ws bs at → length (take (length l - m) (drop m l)) ≡ len_of ws at - m
@@ -114,9 +126,9 @@ topped-put ws bs l vs cs us ds at m to w i e q =
     rw (n, t) at q
 
 pub detached-below : (ws bs vs cs us ds es fs gs : List ℕ) (at m base nodes first count : ℕ) → Detachable ws bs at → first ≡ at + 1 → count ≡ span_of ws at - 1 → base ≡ start_of ws at + m
-    → nodes ≡ span_of ws at + 1 → Lifted ws bs vs cs us ds first 2 count base → SlotPut us ds es fs 1 (topped m (rec_at ws bs at)) → Rooted es gs 0 0 nodes
+    → nodes ≡ span_of ws at + 1 → Lifted ws bs vs cs us ds first 2 count base → SlotPut us ds es fs 1 (topped m (rec_at ws bs at)) → Rooted es gs none nodes
     → DetachedBelow ws bs vs cs gs fs at m (start_of ws at + m)
-unfolding num_of keys_w
+unfolding keys_w
 detached-below ws bs vs cs us ds es fs gs at m base nodes first count d f k b n l p r =
     record {
       len_w = r.len ∙ p.words ∙ l.len_w;
@@ -133,7 +145,7 @@ detached-below ws bs vs cs us ds es fs gs at m base nodes first count d f k b n 
 
 -- Less may be taken off than there is.
 pub lift_less : {ws bs : List ℕ} {from count base less : ℕ} → less ≤ base → Liftable ws bs from count base → Liftable ws bs from count less
-lift_less h l = record { within = l.within; deep = λ i a b. omega (arith, l.deep i a b); short = l.short }
+lift_less h l = record { within = l.within; deep = λ i a b. omega (arith, l.deep i a b); short = l.short; has = l.has }
 
 -- the code's own names for the numbers
 pub lift_as : {ws bs : List ℕ} {from count base from' count' base' : ℕ} → from ≡ from' → count ≡ count' → base ≡ base' → Liftable ws bs from count base → Liftable ws bs from' count' base'

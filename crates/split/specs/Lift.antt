@@ -2,7 +2,9 @@
 -- go to before, us and ds after.
 use Rattle.std.specs.Prelude.{◌≡◌, List, [], ℕ, ◌+◌, ◌-◌, ◌≤◌, ◌<◌, length, drop}
 use Rattle.std.proofs.Math.Option.{none}
-use Rattle.slots.specs.Layout.{nodes_of, start_of, len_of, has_of, span_of, num_of, num_at}
+use Rattle.tree.specs.Map.{Num}
+use Rattle.tree.specs.Tree.{keys_w}
+use Rattle.slots.specs.Layout.{nodes_of, start_of, len_of, has_of, span_of, num_at}
 use Rattle.slots.specs.Records.{Rec, rec_at, root_rec}
 use Rattle.pool.specs.Rule.{Within}
 
@@ -23,6 +25,7 @@ pub record Liftable (ws bs : List ℕ) (from count base : ℕ) : Type 0 where
   pub within : Within ws bs (from + count)
   pub deep : (i : ℕ) → from ≤ i → i < from + count → base ≤ start_of ws i
   pub short : (i : ℕ) → from ≤ i → i < from + count → len_of ws i ≤ 255
+  pub has : (i : ℕ) → from ≤ i → i < from + count → has_of ws i ≤ 1
 
 -- They stand from slot `to` on, lowered.
 pub record Lifted (ws bs vs cs us ds : List ℕ) (from to count base : ℕ) : Type 0 where
@@ -31,10 +34,10 @@ pub record Lifted (ws bs vs cs us ds : List ℕ) (from to count base : ℕ) : Ty
   pub slots : (i : ℕ) → i < count → rec_at us ds (to + i) ≡ lowered base (rec_at ws bs (from + i))
 
 -- The root is written, with `nodes` slots in use, and no other slot.
-pub record Rooted (ws vs : List ℕ) (has number nodes : ℕ) : Type 0 where
+pub record Rooted (ws vs : List ℕ) (num : Num) (nodes : ℕ) : Type 0 where
   pub len : length vs ≡ length ws
   pub count : nodes_of vs ≡ nodes
-  pub root : (bs : List ℕ) → rec_at vs bs 0 ≡ record { start = 0; len = 0; has = has; num = num_of has number; span = nodes; label = [] }
+  pub root : (bs : List ℕ) → rec_at vs bs 0 ≡ record { start = 0; len = 0; has = keys_w num; num = num; span = nodes; label = [] }
   pub others : (bs : List ℕ) (i : ℕ) → 1 ≤ i → rec_at vs bs i ≡ rec_at ws bs i
 
 -- What becomes of the node at slot `at`, behind the first m bytes of its label: where nothing is left of the label, the root

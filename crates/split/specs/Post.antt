@@ -1,11 +1,10 @@
 -- What split leaves in the four lent slices: ws, bs and ws₂, bs₂ before, vs, cs and vs₂, cs₂ after; and its contract.
-use Rattle.std.specs.Prelude.{◌≡◌, List, [], ℕ}
+use Rattle.std.specs.Prelude.{◌≡◌, List, [], ℕ, ⊤}
 use Rattle.std.proofs.Math.Option.{some}
 use Rattle.tree.specs.Tree.{Tree}
 use Rattle.tree.specs.Key.{Key}
-use Rattle.tree.specs.Told.{Told, done, divided_told}
+use Rattle.tree.specs.Told.{Told, done, Answer, bare_told}
 use Rattle.tree.specs.Calls.{SplitOutcome, refuses_both, leaves_both, split_call}
-use Rattle.tree.specs.declared.Divided.{Divided}
 use Rattle.pool.specs.Pool.{pool_tree, slots_of}
 use Rattle.pool.specs.Lent.{Lent, tree_in, size_in}
 
@@ -35,5 +34,5 @@ DoesBoth o told was was₂ is is₂ =
     MeetBoth o told was.words was.labels was₂.words was₂.labels is.words is.labels is₂.words is₂.labels
 
 -- What split allows: an answer, and the slices of both pools that it leaves
-abbrev pub SplitAllows : (prefix : Key) → Divided → (was was₂ is is₂ : Lent) → Type 0
-SplitAllows prefix r was was₂ is is₂ = DoesBoth (split_call (tree_in was) (size_in was₂) prefix) (divided_told r) was was₂ is is₂
+abbrev pub SplitAllows : (prefix : Key) → Answer ⊤ → (was was₂ is is₂ : Lent) → Type 0
+SplitAllows prefix r was was₂ is is₂ = DoesBoth (split_call (tree_in was) (size_in was₂) prefix) (bare_told r) was was₂ is is₂

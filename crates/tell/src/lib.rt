@@ -4,8 +4,7 @@
 
 use std::io::{self, Write};
 use tree::{
-    Counted, Divided, Emptied, Got, Inserted, Loaded, Looked, Prefixed, RuleNo, Sharing, Stepped,
-    Written,
+    Answer, Counted, Got, Inserted, Looked, Prefixed, Refusal, RuleNo, Sharing, Stepped, Written,
 };
 
 fn number<W: Write>(to: &mut W, n: u32) -> io::Result<()> {
@@ -39,133 +38,132 @@ pub fn no_command<W: Write>(to: &mut W) -> io::Result<()> {
     print::text(to, b"?\n")
 }
 
-pub fn emptied<W: Write>(to: &mut W, answer: Emptied) -> io::Result<()> {
-    alone(to, answer.number())
-}
-
-pub fn divided<W: Write>(to: &mut W, answer: Divided) -> io::Result<()> {
-    alone(to, answer.number())
-}
-
-pub fn counted<W: Write>(to: &mut W, answer: Counted) -> io::Result<()> {
-    number(to, answer.number())?;
-    if let Counted::Counts(keys, nodes) = answer {
-        length(to, keys)?;
-        length(to, nodes)?;
+// A refusal: its number, and what is told besides.
+fn refused<W: Write>(to: &mut W, refusal: Refusal) -> io::Result<()> {
+    number(to, refusal.number())?;
+    match refusal {
+        Refusal::NotFound(n) => looked(to, n)?,
+        Refusal::ImageShort(needed) => {
+            length(to, needed.bytes)?;
+            length(to, needed.numbers)?;
+        }
+        _ => {
+            if let Some(n) = refusal.value() {
+                length(to, n)?;
+            }
+        }
     }
     print::line_end(to)
 }
 
-pub fn got<W: Write>(to: &mut W, answer: Got) -> io::Result<()> {
-    number(to, answer.number())?;
-    if let Got::Number(v, n) = answer {
-        rule(to, v)?;
-        looked(to, n)?;
+// An answer in a line: 0 and what is given, told by `values`, or the refusal.
+fn answered<W: Write, T: Drop, F: FnOnce(&mut W, T) -> io::Result<()>>(
+    to: &mut W,
+    answer: Answer<T>,
+    values: F,
+) -> io::Result<()>
+where
+    F: Drop,
+    requires { F.IsAlwaysCallable values }
+{
+    match answer {
+        Ok(given) => {
+            number(to, 0)?;
+            values(to, given)?;
+            print::line_end(to)
+        }
+        Err(refusal) => refused(to, refusal),
     }
-    if let Got::NotFound(n) = answer {
-        looked(to, n)?;
-    }
-    print::line_end(to)
 }
 
-pub fn inserted<W: Write>(to: &mut W, answer: Inserted) -> io::Result<()> {
-    number(to, answer.number())?;
-    if let Inserted::New(n) = answer {
-        looked(to, n)?;
-    }
-    if let Inserted::Replaced(old, n) = answer {
-        rule(to, old)?;
-        looked(to, n)?;
-    }
-    print::line_end(to)
+// What a call answers that says nothing more where it is done.
+pub fn done<W: Write>(to: &mut W, answer: Answer<()>) -> io::Result<()> {
+    answered(to, answer, |_, _| Ok(()))
 }
 
-pub fn prefixed<W: Write>(to: &mut W, answer: Prefixed) -> io::Result<()> {
-    number(to, answer.number())?;
-    if let Prefixed::Longest(m, v, n) = answer {
-        length(to, m)?;
-        rule(to, v)?;
-        looked(to, n)?;
-    }
-    if let Prefixed::NotFound(n) = answer {
-        looked(to, n)?;
-    }
-    print::line_end(to)
+pub fn counted<W: Write>(to: &mut W, answer: Answer<Counted>) -> io::Result<()> {
+    answered(to, answer, |to, counted| {
+        length(to, counted.keys)?;
+        length(to, counted.nodes)
+    })
 }
 
-pub fn sharing<W: Write>(to: &mut W, answer: Sharing) -> io::Result<()> {
-    number(to, answer.number())?;
-    if let Sharing::Length(m, n) = answer {
-        length(to, m)?;
-        looked(to, n)?;
-    }
-    print::line_end(to)
+pub fn got<W: Write>(to: &mut W, answer: Answer<Got>) -> io::Result<()> {
+    answered(to, answer, |to, got| {
+        rule(to, got.number)?;
+        looked(to, got.looked)
+    })
 }
 
-// The offset that a refusal of the reader has, or none.
-fn offset<W: Write>(to: &mut W, answer: Loaded) -> io::Result<()> {
-    if answer.number() > 5 {
-        length(to, answer.offset(0))?;
+pub fn inserted<W: Write>(to: &mut W, answer: Answer<Inserted>) -> io::Result<()> {
+    answered(to, answer, |to, inserted| {
+        if let Some(old) = inserted.old {
+            rule(to, old)?;
+        }
+        looked(to, inserted.looked)
+    })
+}
+
+pub fn prefixed<W: Write>(to: &mut W, answer: Answer<Prefixed>) -> io::Result<()> {
+    answered(to, answer, |to, prefixed| {
+        length(to, prefixed.length)?;
+        rule(to, prefixed.number)?;
+        looked(to, prefixed.looked)
+    })
+}
+
+pub fn sharing<W: Write>(to: &mut W, answer: Answer<Sharing>) -> io::Result<()> {
+    answered(to, answer, |to, sharing| {
+        length(to, sharing.length)?;
+        looked(to, sharing.looked)
+    })
+}
+
+// The bytes at the front of an output, behind a space.
+fn hex_front<W: Write>(to: &mut W, out: &[u8], n: usize) -> io::Result<()> {
+    if let Some(bytes) = out.get(..n) {
+        print::text(to, b" ")?;
+        print::hex(to, bytes)?;
     }
     Ok(())
-}
-
-pub fn loaded<W: Write>(to: &mut W, answer: Loaded) -> io::Result<()> {
-    number(to, answer.number())?;
-    offset(to, answer)?;
-    print::line_end(to)
 }
 
 // The image stands at the front of the two outputs.
 pub fn written<W: Write>(
     to: &mut W,
-    answer: Written,
+    answer: Answer<Written>,
     tree: &[u8],
     numbers: &[u64],
 ) -> io::Result<()> {
-    number(to, answer.number())?;
-    if let Written::Lengths(n, k) = answer {
-        if n <= tree.len() {
+    answered(to, answer, |to, written| {
+        hex_front(to, tree, written.bytes)?;
+        if let Some(list) = numbers.get(..written.numbers) {
             print::text(to, b" ")?;
-            print::hex(to, &tree[0..n])?;
+            print::list(to, list)?;
         }
-        if k <= numbers.len() {
-            print::text(to, b" ")?;
-            print::list(to, &numbers[0..k])?;
-        }
-    }
-    if let Written::Short(n, k) = answer {
-        length(to, n)?;
-        length(to, k)?;
-    }
-    print::line_end(to)
+        Ok(())
+    })
 }
 
 // One step of a walk; the key stands at the front of the output.
-pub fn stepped<W: Write>(to: &mut W, answer: Stepped, out: &[u8]) -> io::Result<()> {
-    number(to, answer.number())?;
-    if let Stepped::Key(n, v) = answer {
-        if n <= out.len() {
-            print::text(to, b" ")?;
-            print::hex(to, &out[0..n])?;
-        }
-        rule(to, v)?;
-    }
-    if let Stepped::Short(n) = answer {
-        length(to, n)?;
-    }
-    print::line_end(to)
+pub fn stepped<W: Write>(to: &mut W, answer: Answer<Stepped>, out: &[u8]) -> io::Result<()> {
+    answered(to, answer, |to, step| {
+        hex_front(to, out, step.length)?;
+        rule(to, step.number)
+    })
 }
 
 // One of the steps of a whole walk: the key and its number, `KEY=N`; or the number of the refusal, which ends the line.
-pub fn walked<W: Write>(to: &mut W, answer: Stepped, out: &[u8]) -> io::Result<()> {
-    let Stepped::Key(n, v) = answer else {
-        return alone(to, answer.number());
-    };
-    if n <= out.len() {
-        print::hex(to, &out[0..n])?;
+pub fn walked<W: Write>(to: &mut W, answer: Answer<Stepped>, out: &[u8]) -> io::Result<()> {
+    match answer {
+        Ok(step) => {
+            if let Some(key) = out.get(..step.length) {
+                print::hex(to, key)?;
+            }
+            print::text(to, b"=")?;
+            print::number(to, step.number.0)?;
+            print::text(to, b" ")
+        }
+        Err(refusal) => alone(to, refusal.number()),
     }
-    print::text(to, b"=")?;
-    print::number(to, v.0)?;
-    print::text(to, b" ")
 }

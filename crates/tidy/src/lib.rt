@@ -111,12 +111,10 @@ fn parent_of(words: &[u32], at: Slot) -> Slot
     ensures { Parent words.now at.0 result.0 }
 {
     let start = slots::start_at(words, at);
-    let mut r = at.0 - 1;
-    while 0 < r {
+    for r in (1..at.0).rev() {
         if slots::start_at(words, Slot(r)) < start {
             return Slot(r);
         }
-        r -= 1;
     }
     Slot(0)
 }

@@ -41,3 +41,4 @@ pub mod Loader
 pub mod Levels
 pub mod Examples
 pub mod FlagTable
+pub mod Exits

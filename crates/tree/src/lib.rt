@@ -1,8 +1,9 @@
-// The four kinds of number that must not be mixed up, the sizes of document 01, and one enum for each kind of answer.
+// The four kinds of number that must not be mixed up, the sizes of document 01, and what a call answers: what it gives, or a
+// refusal.
 #![tactic(auto)]
 
-ghost use Rattle.std.specs.Prelude.{◌≡◌, get_or};
-ghost use Rattle.tree.specs.Told.{emptied_told, got_told, inserted_told, prefixed_told, sharing_told, stepped_told, divided_told, counted_told, written_told, loaded_told};
+ghost use Rattle.std.specs.Prelude.{◌≡◌, option_to_list, take};
+ghost use Rattle.tree.specs.Told.{number_of, refusal_told};
 
 // A label has at most so many bytes.
 pub const LABEL_MAX: usize = 255;
@@ -26,95 +27,80 @@ pub struct Level(pub usize);
 pub struct RuleNo(pub u64);
 
 // How many nodes a search looked at.
-#[derive(Clone, Copy)]
+#[derive(Clone, Copy, PartialEq, Eq)]
 pub struct Looked(pub usize);
 
-// What make and clear answer.
+// What a call that is done has to say, or its refusal. Make, clear, split and read say nothing more.
+pub type Answer<T> = Result<T, Refusal>;
+
+// What get and remove answer: the number at the key, the old one for remove. A search tells how many nodes it looked at.
 #[derive(Clone, Copy)]
-pub enum Emptied {
-    Done,
-    NotPool,
+pub struct Got {
+    pub number: RuleNo,
+    pub looked: Looked,
 }
 
-// What get and remove answer: the number at the key, the old one for remove. A search tells last how many nodes it
-// looked at, where it found what it sought and where it did not.
+// What insert answers: the old number, if there was one. Its search is that in the tree as it was before.
 #[derive(Clone, Copy)]
-pub enum Got {
-    Number(RuleNo, Looked),
-    NotPool,
-    TooLong,
-    NotFound(Looked),
-}
-
-// What insert answers. Its search is that in the tree as it was before.
-#[derive(Clone, Copy)]
-pub enum Inserted {
-    New(Looked),
-    Replaced(RuleNo, Looked),
-    NotPool,
-    TooLong,
-    NoRoom,
+pub struct Inserted {
+    pub old: Option<RuleNo>,
+    pub looked: Looked,
 }
 
 // What the longest stored prefix answers: its length and number.
 #[derive(Clone, Copy)]
-pub enum Prefixed {
-    Longest(usize, RuleNo, Looked),
-    NotPool,
-    TooLong,
-    NotFound(Looked),
+pub struct Prefixed {
+    pub length: usize,
+    pub number: RuleNo,
+    pub looked: Looked,
 }
 
 // What the longest shared length answers.
 #[derive(Clone, Copy)]
-pub enum Sharing {
-    Length(usize, Looked),
-    NotPool,
-    TooLong,
+pub struct Sharing {
+    pub length: usize,
+    pub looked: Looked,
 }
 
-// What a walk's step answers: the key's length and number, or the length that the output lacks.
+// What a walk's step answers: the key's length and number.
 #[derive(Clone, Copy)]
-pub enum Stepped {
-    Key(usize, RuleNo),
-    NotPool,
-    TooLong,
-    Ended,
-    Short(usize),
-}
-
-// What split answers.
-#[derive(Clone, Copy)]
-pub enum Divided {
-    Done,
-    NotPool,
-    TooLong,
-    NotFound,
-    NoRoom,
+pub struct Stepped {
+    pub length: usize,
+    pub number: RuleNo,
 }
 
 // What counts answers: keys and nodes.
 #[derive(Clone, Copy)]
-pub enum Counted {
-    Counts(usize, usize),
-    NotPool,
+pub struct Counted {
+    pub keys: usize,
+    pub nodes: usize,
 }
 
-// What the writer answers: the lengths of tree bytes and numbers, written or needed.
-#[derive(Clone, Copy)]
-pub enum Written {
-    Lengths(usize, usize),
-    NotPool,
-    Short(usize, usize),
+// What the writer answers: the lengths of tree bytes and numbers.
+#[derive(Clone, Copy, PartialEq, Eq)]
+pub struct Written {
+    pub bytes: usize,
+    pub numbers: usize,
 }
 
-// What the reader answers: most refusals carry an offset into the image.
-#[derive(Clone, Copy)]
-pub enum Loaded {
-    Done,
+// Document 01's refusals, in the order of their numbers.
+#[derive(Clone, Copy, PartialEq, Eq)]
+pub enum Refusal {
+    // 1: the slices are no pool.
     NotPool,
-    PathTooLong,
+    // 2: a key, query, prefix or path is too long.
+    TooLong,
+    // 3: nothing is stored there; the search looked at so many nodes.
+    NotFound(Looked),
+    // 3: no key is left under the prefix of a walk, or none is under that of a split.
+    NoKey,
+    // 4: the pool has too few slots.
     NoRoom,
+    // 5: the output is too short for a key of so many bytes.
+    KeyShort(usize),
+    // 5: an output is too short for an image of these lengths.
+    ImageShort(Written),
+    // 6 to 13: what the reader found, at this offset into the image.
     CutShort(usize),
     FlagByte(usize),
     WrongLevel(usize),
@@ -125,158 +111,59 @@ pub enum Loaded {
     BytesLeft(usize),
 }
 
-// Document 01's number of each answer.
-impl Emptied {
+impl Refusal {
+    // Document 01's number.
     pub fn number(self) -> u32
-        ensures { result ≡ (emptied_told self).number }
+        ensures { result ≡ (refusal_told self).number }
     {
         match self {
-            Emptied::Done => 0,
-            Emptied::NotPool => 1,
+            Refusal::NotPool => 1,
+            Refusal::TooLong => 2,
+            Refusal::NotFound(_) | Refusal::NoKey => 3,
+            Refusal::NoRoom => 4,
+            Refusal::KeyShort(_) | Refusal::ImageShort(_) => 5,
+            Refusal::CutShort(_) => 6,
+            Refusal::FlagByte(_) => 7,
+            Refusal::WrongLevel(_) => 8,
+            Refusal::LabelLength(_) => 9,
+            Refusal::SiblingOrder(_) => 10,
+            Refusal::IdleNode(_) => 11,
+            Refusal::NumberCount(_) => 12,
+            Refusal::BytesLeft(_) => 13,
+        }
+    }
+
+    // The count, length or offset that is told besides, if one is; of two the first.
+    pub fn value(self) -> Option<usize>
+        ensures { option_to_list result ≡ take 1 (refusal_told self).values }
+    {
+        match self {
+            Refusal::NotPool | Refusal::TooLong | Refusal::NoKey | Refusal::NoRoom => None,
+            Refusal::NotFound(looked) => Some(looked.0),
+            Refusal::KeyShort(length) => Some(length),
+            Refusal::ImageShort(needed) => Some(needed.bytes),
+            Refusal::CutShort(at)
+            | Refusal::FlagByte(at)
+            | Refusal::WrongLevel(at)
+            | Refusal::LabelLength(at)
+            | Refusal::SiblingOrder(at)
+            | Refusal::IdleNode(at)
+            | Refusal::NumberCount(at)
+            | Refusal::BytesLeft(at) => Some(at),
         }
     }
 }
 
-impl Got {
-    pub fn number(self) -> u32
-        ensures { result ≡ (got_told self).number }
-    {
-        match self {
-            Got::Number(_, _) => 0,
-            Got::NotPool => 1,
-            Got::TooLong => 2,
-            Got::NotFound(_) => 3,
-        }
+// Document 01's number of an answer: 0 where the call is done.
+pub fn number<T>(answer: &Answer<T>) -> u32
+    ensures { result ≡ number_of answer.now }
+{
+    match answer {
+        Ok(_) => 0,
+        Err(refusal) => refusal.number(),
     }
 }
 
-impl Inserted {
-    pub fn number(self) -> u32
-        ensures { result ≡ (inserted_told self).number }
-    {
-        match self {
-            Inserted::New(_) => 0,
-            Inserted::Replaced(_, _) => 0,
-            Inserted::NotPool => 1,
-            Inserted::TooLong => 2,
-            Inserted::NoRoom => 4,
-        }
-    }
-}
+mod key;
 
-impl Prefixed {
-    pub fn number(self) -> u32
-        ensures { result ≡ (prefixed_told self).number }
-    {
-        match self {
-            Prefixed::Longest(_, _, _) => 0,
-            Prefixed::NotPool => 1,
-            Prefixed::TooLong => 2,
-            Prefixed::NotFound(_) => 3,
-        }
-    }
-}
-
-impl Sharing {
-    pub fn number(self) -> u32
-        ensures { result ≡ (sharing_told self).number }
-    {
-        match self {
-            Sharing::Length(_, _) => 0,
-            Sharing::NotPool => 1,
-            Sharing::TooLong => 2,
-        }
-    }
-}
-
-impl Stepped {
-    pub fn number(self) -> u32
-        ensures { result ≡ (stepped_told self).number }
-    {
-        match self {
-            Stepped::Key(_, _) => 0,
-            Stepped::NotPool => 1,
-            Stepped::TooLong => 2,
-            Stepped::Ended => 3,
-            Stepped::Short(_) => 5,
-        }
-    }
-}
-
-impl Divided {
-    pub fn number(self) -> u32
-        ensures { result ≡ (divided_told self).number }
-    {
-        match self {
-            Divided::Done => 0,
-            Divided::NotPool => 1,
-            Divided::TooLong => 2,
-            Divided::NotFound => 3,
-            Divided::NoRoom => 4,
-        }
-    }
-}
-
-impl Counted {
-    pub fn number(self) -> u32
-        ensures { result ≡ (counted_told self).number }
-    {
-        match self {
-            Counted::Counts(_, _) => 0,
-            Counted::NotPool => 1,
-        }
-    }
-}
-
-impl Written {
-    pub fn number(self) -> u32
-        ensures { result ≡ (written_told self).number }
-    {
-        match self {
-            Written::Lengths(_, _) => 0,
-            Written::NotPool => 1,
-            Written::Short(_, _) => 5,
-        }
-    }
-}
-
-impl Loaded {
-    pub fn number(self) -> u32
-        ensures { result ≡ (loaded_told self).number }
-    {
-        match self {
-            Loaded::Done => 0,
-            Loaded::NotPool => 1,
-            Loaded::PathTooLong => 2,
-            Loaded::NoRoom => 4,
-            Loaded::CutShort(_) => 6,
-            Loaded::FlagByte(_) => 7,
-            Loaded::WrongLevel(_) => 8,
-            Loaded::LabelLength(_) => 9,
-            Loaded::SiblingOrder(_) => 10,
-            Loaded::IdleNode(_) => 11,
-            Loaded::NumberCount(_) => 12,
-            Loaded::BytesLeft(_) => 13,
-        }
-    }
-
-    // The offset that is told besides, or `kept` where none is: the numbers from 6 on have one.
-    pub fn offset(self, kept: usize) -> usize
-        ensures { result ≡ get_or (loaded_told self).values 0 kept }
-    {
-        match self {
-            Loaded::Done => kept,
-            Loaded::NotPool => kept,
-            Loaded::PathTooLong => kept,
-            Loaded::NoRoom => kept,
-            Loaded::CutShort(at) => at,
-            Loaded::FlagByte(at) => at,
-            Loaded::WrongLevel(at) => at,
-            Loaded::LabelLength(at) => at,
-            Loaded::SiblingOrder(at) => at,
-            Loaded::IdleNode(at) => at,
-            Loaded::NumberCount(at) => at,
-            Loaded::BytesLeft(at) => at,
-        }
-    }
-}
+pub use key::Key;

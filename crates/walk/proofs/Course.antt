@@ -9,13 +9,15 @@ use native.Mathlib.Omega.{arith}
 use lib.ListN.{length, take, drop}
 use lib.Seq.{take_at}
 use lib.Dec.{leb}
+use Rattle.std.specs.Prelude.{Ok, Err}
 use Rattle.tree.specs.Key.{Key, key_max}
 use Rattle.tree.specs.Map.{Pair, Pairs, next}
 use Rattle.tree.specs.Tree.{Tree, WellFormed, pairs_t}
 use Rattle.tree.specs.Walk.{step_t}
-use Rattle.tree.specs.Told.{stepped_told}
+use Rattle.tree.specs.Told.{Answer, stepped_told}
 use Rattle.tree.specs.Calls.{fits, last_fits, step_told, step_call}
 use Rattle.tree.specs.declared.RuleNo.{RuleNo}
+use Rattle.tree.specs.declared.Refusal.{Refusal}
 use Rattle.tree.specs.declared.Stepped.{Stepped}
 use Rattle.tree.proofs.MapLaws.{pairs_ascend}
 use Rattle.walk.specs.declared.Walk.{Walk}
@@ -26,8 +28,8 @@ use Rattle.walk.proofs.Whole.{walk-whole, yields_unique}
 
 -- A course of steps, and the pairs that stand in the outputs: a key at the front, and its number
 pub data Course (t : Tree) : Walk → Pairs → Type 0 where
-  stops : {w : Walk} {r : Step} {out out' : List ℕ} → Steps (some t) w r out out' → r.answer ≡ Stepped.Ended → Course t w []
-  goes : {w : Walk} {r : Step} {out out' : List ℕ} {n : ℕ} {v : RuleNo} {ys : Pairs} → Steps (some t) w r out out' → r.answer ≡ Stepped.Key n v → Course t r.walk ys
+  stops : {w : Walk} {r : Step} {out out' : List ℕ} → Steps (some t) w r out out' → r.answer ≡ Err Refusal.NoKey → Course t w []
+  goes : {w : Walk} {r : Step} {out out' : List ℕ} {n : ℕ} {v : RuleNo} {ys : Pairs} → Steps (some t) w r out out' → r.answer ≡ Ok (record { length = n; number = v }) → Course t r.walk ys
       → Course t w ((take n out', v.0) ∷ ys)
 
 -- What a call that tells neither 2 nor 5 has come to
@@ -54,13 +56,13 @@ came_call t p l room = go (fits p) refl (last_fits l) refl
     go true e false f = unfold step_call in (rw (e, f, step_call) (refused refl))
     go true e true f = unfold step_call in (rw (e, f, step_call) (came_told room (step_t t p l)))
 
-came : {t : Tree} {w : Walk} {r : Step} {out out' : List ℕ} → Steps (some t) w r out out' → (a : Stepped) → r.answer ≡ a → Came (stepped_told a).number (stepped_told a).values (step_t t (prefix_of w) (last_of w))
+came : {t : Tree} {w : Walk} {r : Step} {out out' : List ℕ} → Steps (some t) w r out out' → (a : Answer Stepped) → r.answer ≡ a → Came (stepped_told a).number (stepped_told a).values (step_t t (prefix_of w) (last_of w))
 came {t} {w} {r} {out} s a e = rw (sym s.said ∙ ap stepped_told e) at (came_call t (prefix_of w) (last_of w) (length out))
 
 -- A step that ends has no next pair; one that gives has put it into the output, and the walk goes on from it.
-step_ends : {t : Tree} {w : Walk} {r : Step} {out out' : List ℕ} → Steps (some t) w r out out' → r.answer ≡ Stepped.Ended → next (pairs_t t) (prefix_of w) (last_of w) ≡ none
+step_ends : {t : Tree} {w : Walk} {r : Step} {out out' : List ℕ} → Steps (some t) w r out out' → r.answer ≡ Err Refusal.NoKey → next (pairs_t t) (prefix_of w) (last_of w) ≡ none
 unfolding step_t
-step_ends s e = elim (came s Stepped.Ended e) [ ended i j ↦ j | gave x i j k ↦ absurd (omega arith) | refused i ↦ absurd (omega arith) | short i ↦ absurd (omega arith) ]
+step_ends s e = elim (came s (Err Refusal.NoKey) e) [ ended i j ↦ j | gave x i j k ↦ absurd (omega arith) | refused i ↦ absurd (omega arith) | short i ↦ absurd (omega arith) ]
 
 record Gave (t : Tree) (w : Walk) (r : Step) (x : Pair) : Type 0 where
   is : next (pairs_t t) (prefix_of w) (last_of w) ≡ some x
@@ -78,10 +80,10 @@ gave_left t w r out out' n v x i k l =
     let q : ◌≡◌ {A = Pair} x (take n out', v.0) = λ j. (sym c j, sym b j) in
     record { is = k ∙ ap some q; prefix = g.prefix; last = g.last ∙ ap some (sym c) }
 
-step_gives : {t : Tree} {w : Walk} {r : Step} {out out' : List ℕ} {n : ℕ} {v : RuleNo} → Steps (some t) w r out out' → r.answer ≡ Stepped.Key n v → Gave t w r (take n out', v.0)
+step_gives : {t : Tree} {w : Walk} {r : Step} {out out' : List ℕ} {n : ℕ} {v : RuleNo} → Steps (some t) w r out out' → r.answer ≡ Ok (record { length = n; number = v }) → Gave t w r (take n out', v.0)
 unfolding step_of
 step_gives {t} {w} {r} {out} {out'} {n} {v} s e =
-    elim (came s (Stepped.Key n v) e) [
+    elim (came s (Ok (record { length = n; number = v })) e) [
       | ended i j ↦ absurd (omega arith)
       | gave x i j k ↦ gave_left t w r out out' n v x j k (rw e at s.left)
       | refused i ↦ absurd (omega arith)

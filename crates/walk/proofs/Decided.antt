@@ -28,6 +28,7 @@ begins_decided h a b = record { prefix = a.prefix h ∙ sym (b.prefix h); last =
 
 -- A walk under a prefix that is too long gets 2 at every step.
 pub begins_long : {t : Tree} {p : Key} {w : Walk} {r : Step} {out out' : List ℕ} → 4096 < length p → Begins p w → Steps (some t) w r out out' → stepped_told r.answer ≡ refusal 2
+unfolding key_max
 begins_long {t} {p} {w} {r} {out} h b s = s.said ∙ sym (call_prefix t (prefix_of w) (last_of w) (length out) (fits_long (prefix_of w) (omega (arith, b.len))))
 
 pub handed_in_decided : {l : Key} {w u v : Walk} → length l ≤ key_max → HandedIn l w u → HandedIn l w v → Alike u v
@@ -41,7 +42,7 @@ long_last t p l room true e f = call_last t p l room e f
 
 pub handed_in_long : {t : Tree} {l : Key} {w u : Walk} {r : Step} {out out' : List ℕ} → 4096 < length l → HandedIn l w u → Steps (some t) u r out out'
     → stepped_told r.answer ≡ refusal 2
-unfolding last_fits
+unfolding last_fits key_max
 handed_in_long {t} {l} {w} {u} {r} {out} h g s =
     let f : last_fits (last_of u) ≡ false = ap last_fits g.last ∙ fits_long g.given (omega (arith, g.len)) in
     s.said ∙ sym (long_last t (prefix_of u) (last_of u) (length out) (fits (prefix_of u)) refl f)

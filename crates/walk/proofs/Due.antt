@@ -1,83 +1,42 @@
--- Whether a key is due, from how many leading bytes it shares with the prefix and with the last key given. Assumes nothing.
-use mathlib.Core.Path.{◌≡◌, refl, sym, ◌∙◌}
-use mathlib.Core.List.{[], ◌∷◌}
+-- Whether a key is due, from whether it starts with the prefix and whether the last key given is less. Assumes nothing.
+use mathlib.Core.Path.{◌≡◌, refl, sym, ap, ◌∙◌}
+use mathlib.Core.List.{◌∷◌}
 use mathlib.Core.Option.{Option, none, some}
 use mathlib.Core.Bool.{Bool, true, false}
-use Prim.Native.Nat.{ℕ, suc, ◌≤◌, ◌<◌}
-use native.Mathlib.Omega.{arith}
-use lib.ListN.{length, get_or, drop}
-use lib.Dec.{ltb}
-use borrow.Author.Tests.{lt-ltb, le-ltb}
-use Rattle.tree.specs.Key.{Key, order, strip, common}
+use Prim.Native.Nat.{ℕ}
+use lib.ListN.{length, drop}
+use Rattle.std.specs.Prelude.{Some, nat_eq}
+use Rattle.std.specs.List.{starts_with}
+use Rattle.std.specs.Cmp.{nat_cmp_is}
+use Rattle.std.specs.Cmp.Lexicographic.{slice_partial_cmp}
+use Rattle.std.specs.Ordering.{nat_cmp, is_lt, is_some_and, MatchOrdering}
+use Rattle.std.specs.declared.cmp.Ordering.{Ordering}
+use Rattle.std.specs.declared.cmp.Ordering.TheVariants.{Less, Equal, Greater}
+use Rattle.std.proofs.lemmas.Bool.Decides.{Decides-eqb}
+use Rattle.std.proofs.lemmas.Cmp.{same_from_slice_cmp_tested}
+use Rattle.std.proofs.lemmas.Slice.Eq.{starts_is}
+use Rattle.tree.specs.Key.{Key, order, strip}
 use Rattle.tree.specs.Map.{past}
+use Rattle.tree.proofs.Judge.{never}
 use Rattle.tree.proofs.Order.{less, even, more, cmp}
-use Rattle.tree.proofs.Common.{strip_by_common, strip_by_common_none}
-use Rattle.label.proofs.Moves.{by_lt}
-use Rattle.walk.specs.Due.{last_if, due}
+use Rattle.tree.proofs.Parts.{strip-append, starts, not, stripped}
+use Rattle.walk.specs.Due.{due}
 
 -- The first bytes of two keys: one is less, or the rest of the keys decides.
-data Heads (x : ℕ) (l : Key) (y : ℕ) (k : Key) : Type 0 where
-  before : x < y → past (some (x ∷ l)) (y ∷ k) ≡ true → common (x ∷ l) (y ∷ k) ≡ 0 → Heads x l y k
-  alike : past (some (x ∷ l)) (y ∷ k) ≡ past (some l) k → common (x ∷ l) (y ∷ k) ≡ suc (common l k) → Heads x l y k
-  behind : y < x → past (some (x ∷ l)) (y ∷ k) ≡ false → common (x ∷ l) (y ∷ k) ≡ 0 → Heads x l y k
-
-heads : (x : ℕ) (l : Key) (y : ℕ) (k : Key) → Heads x l y k
-unfolding past order common
-heads x l y k =
+past_more : (x y : ℕ) (l k : Key) (o : Ordering) → o ≡ nat_cmp x y
+    → MatchOrdering o (past (some (x ∷ l)) (y ∷ k) ≡ true) (past (some (x ∷ l)) (y ∷ k) ≡ past (some l) k) (past (some (x ∷ l)) (y ∷ k) ≡ false)
+unfolding past order
+past_more x y l k o e =
     elim (cmp x y) [
-      | less h e ↦ before h (rw (e, past, order)) (rw (e, common))
-      | even h e ↦ alike (rw (e, past, order)) (rw (e, common))
-      | more h e ↦ behind h (rw (e, past, order)) (rw (e, common))
+      | less h i ↦ rw (e ∙ sym (nat_cmp_is x y Less h)) (rw (i, past, order))
+      | even h i ↦ rw (e ∙ sym (nat_cmp_is x y Equal h)) (rw (i, past, order))
+      | more h i ↦ rw (e ∙ sym (nat_cmp_is x y Greater h)) (rw (i, past, order))
     ]
 
--- Two keys share no more bytes than either has.
-pub common-most : (k l : Key) → (common k l ≤ length k) × (common k l ≤ length l)
-common-most [] l = unfold common in (omega arith, omega arith)
-common-most (x ∷ k) [] = unfold common in (omega arith, omega arith)
-common-most (x ∷ k) (y ∷ l) =
-    let i = common-most k l in
-    elim (heads x k y l) [ before h p c ↦ omega arith | alike p c ↦ omega arith | behind h p c ↦ omega arith ]
-
--- The key ends within the last one: it does not come after it.
-pub past_end : (l k : Key) → common l k ≡ length k → past (some l) k ≡ false
-past_end [] [] h = unfold past order in refl
-past_end [] (y ∷ k) h = absurd (unfold common in (omega arith))
-past_end (x ∷ l) [] h = unfold past order in refl
-past_end (x ∷ l) (y ∷ k) h =
-    elim (heads x l y k) [
-      | before i p c ↦ absurd (omega arith)
-      | alike p c ↦ p ∙ past_end l k (omega arith)
-      | behind i p c ↦ p
-    ]
-
--- The last key ends within the key: the key is an extension of it, and comes after it.
-pub past-longer : (l k : Key) → common l k ≡ length l → ¬ (common l k ≡ length k) → past (some l) k ≡ true
-past-longer [] [] h ne = absurd (ne (unfold common in refl))
-past-longer [] (y ∷ k) h ne = unfold past order in refl
-past-longer (x ∷ l) [] h ne = absurd (unfold common in (omega arith))
-past-longer (x ∷ l) (y ∷ k) h ne =
-    elim (heads x l y k) [
-      | before i p c ↦ p
-      | alike p c ↦ p ∙ past-longer l k (omega arith) (λ q. ne (omega arith))
-      | behind i p c ↦ absurd (omega arith)
-    ]
-
--- They part: the bytes there decide.
-pub past-fork : (l k : Key) → common l k < length l → common l k < length k → past (some l) k ≡ ltb (get_or l (common l k) 0) (get_or k (common l k) 0)
-past-fork [] k h i = absurd (omega arith)
-past-fork (x ∷ l) [] h i = absurd (omega arith)
-past-fork (x ∷ l) (y ∷ k) h i =
-    elim (heads x l y k) [
-      | before j p c ↦ p ∙ rw c (sym (lt-ltb x y j))
-      | alike p c ↦ p ∙ rw c (past-fork l k (omega arith) (omega arith))
-      | behind j p c ↦ p ∙ rw c (sym (le-ltb x y (omega arith)))
-    ]
-
--- the same of the number that the code has
-pub past_parts : (l k : Key) (m : ℕ) → m ≡ common l k → ¬ (m ≡ length k) → ¬ (m ≡ length l) → ltb (get_or l m 0) (get_or k m 0) ≡ past (some l) k
-past_parts l k m e i j =
-    let s = common-most l k in
-    rw e (sym (past-fork l k (by_lt (common l k) (length l) (λ h. h) (λ h. absurd (j (omega arith)))) (by_lt (common l k) (length k) (λ h. h) (λ h. absurd (i (omega arith))))))
+-- A key comes after the last one if that is less as a slice.
+pub past_lt : (l k : Key) (r : Bool) → r ≡ is_some_and is_lt (slice_partial_cmp (λ x y. Some (nat_cmp x y)) l k) → r ≡ past (some l) k
+unfolding past order
+past_lt = same_from_slice_cmp_tested nat_cmp is_lt (λ l k. past (some l) k) refl (λ y k. refl) (λ x l. refl) past_more
 
 module _ (p : Key) (l : Option Key) (k : Key) where
   pub due-none : strip p k ≡ none → due p l k ≡ false
@@ -89,16 +48,18 @@ module _ (p : Key) (l : Option Key) (k : Key) where
   due-some r e = rw (e, due)
 
   -- A key that does not start with the prefix is not due; one that does is, if it comes after the last one.
-  pub due-off : common k p < length p → due p l k ≡ false
-  due-off h = due-none (strip_by_common_none p k h)
+  pub due-off : false ≡ starts_with nat_eq k p → due p l k ≡ false
+  due-off e =
+      elim (stripped p k) [
+        | starts r i s ↦ never (cc ((starts_is Decides-eqb k p false e).1 r i))
+        | not s ↦ due-none s
+      ]
 
-  pub due-on : length p ≤ common k p → due p l k ≡ past l k
-  due-on h = due-some (drop (length p) k) (strip_by_common p k (omega (arith, common-most k p)))
+  pub due-on : true ≡ starts_with nat_eq k p → due p l k ≡ past l k
+  due-on e =
+      let r = drop (length p) k in
+      due-some r (ap (strip p) ((starts_is Decides-eqb k p true e).0 refl) ∙ strip-append p r)
 
-pub past-fresh : (l k : Key) (b : Bool) → b ≡ false → past (last_if b l) k ≡ true
-unfolding past last_if
-past-fresh l k b e = rw e
-
-pub past_begun : (l k : Key) (b : Bool) → b ≡ true → past (last_if b l) k ≡ past (some l) k
-unfolding last_if
-past_begun l k b e = rw e
+pub past-fresh : (k : Key) → past none k ≡ true
+unfolding past
+past-fresh k = refl

@@ -1,15 +1,13 @@
--- The key that an array with a claimed length stands for, and a new walk. Assumes nothing.
-use mathlib.Core.Path.{◌≡◌, ap, ◌∙◌}
-use mathlib.Core.Bool.{false}
+-- The key that an array with a claimed length stands for, and a key in a room of its own. Assumes nothing.
+use mathlib.Core.Path.{◌≡◌, sym, ap, ◌∙◌}
 use mathlib.Core.List.{List, ◌++◌}
 use Prim.Native.Nat.{ℕ, ◌≤◌, ◌<◌}
 use native.Mathlib.Omega.{arith}
 use lib.ListN.{length, take, drop, replicate, length-append, length-replicate}
 use lib.Seq.{take-append-le, take-append_seam, length-take-le}
 use Rattle.tree.specs.Key.{Key, key_max}
-use Rattle.walk.specs.declared.Walk.{Walk}
-use Rattle.walk.specs.Due.{last_if}
-use Rattle.walk.specs.Walks.{padded, Begins}
+use Rattle.walk.specs.declared.Key.{Key as Kept}
+use Rattle.walk.specs.Walks.{padded, key_of, Keeps}
 
 pub padded-length : (n : ℕ) (bs : List ℕ) → length (padded n bs) ≡ n
 unfolding padded
@@ -20,17 +18,26 @@ pub padded-is : (n : ℕ) (bs : List ℕ) → n ≤ length bs → padded n bs �
 unfolding padded
 padded-is n bs h = take-append-le n bs (replicate n 0) h
 
--- A new walk: its prefix is kept where it fits.
-module _ (p : Key) (w : Walk) (len : w.prefix_len ≡ length p) (new : w.begun ≡ false) where
-  begins : (length p ≤ key_max → padded w.prefix_len w.prefix ≡ p) → Begins p w
-  unfolding last_if
-  begins k = record { prefix = k; len = padded-length w.prefix_len w.prefix ∙ len; fresh = rw new }
+-- A key in a room of its own: its bytes are kept where they fit.
+module _ (k : Key) (r : Kept) (len : r.len ≡ length k) where
+  keeps : (length k ≤ key_max → key_of r ≡ k) → Keeps k r
+  keeps e = record { bytes = e; len = padded-length r.len r.bytes ∙ len }
 
-  pub begins_kept : {xs : List ℕ} (room : List ℕ) → xs ≡ p → w.prefix ≡ xs ++ drop (length p) room → Begins p w
-  begins_kept {xs} room e q =
-      let i : length p ≤ length (xs ++ drop (length p) room) = omega (arith, length-append xs (drop (length p) room), ap length e) in
-      begins (λ _. rw (len, q) (padded-is (length p) (xs ++ drop (length p) room) i ∙ rw e (take-append_seam p (drop (length p) room))))
+  pub keeps_all : {xs : List ℕ} (room : List ℕ) → xs ≡ k → r.bytes ≡ xs ++ drop (length k) room → Keeps k r
+  keeps_all {xs} room e q =
+      let i : length k ≤ length (xs ++ drop (length k) room) = omega (arith, length-append xs (drop (length k) room), ap length e) in
+      keeps (λ _. rw (len, q) (padded-is (length k) (xs ++ drop (length k) room) i ∙ rw e (take-append_seam k (drop (length k) room))))
 
-  pub begins_long : 4096 < length p → Begins p w
+  pub keeps_length : 4096 < length k → Keeps k r
   unfolding key_max
-  begins_long h = begins (λ k. absurd (omega arith))
+  keeps_length h = keeps (λ j. absurd (omega arith))
+
+-- It is lent where it has been kept.
+module _ (k : Kept) where
+  pub lent_not : 4096 < k.len → key_max < length (key_of k)
+  unfolding key_max
+  lent_not h = omega (arith, padded-length k.len k.bytes)
+
+  pub lent_all : k.len ≤ 4096 → length k.bytes ≡ 4096 → (take k.len k.bytes ≡ key_of k) × (length (key_of k) ≤ key_max)
+  unfolding key_max
+  lent_all h e = (sym (padded-is k.len k.bytes (omega arith)), omega (arith, padded-length k.len k.bytes))

@@ -8,6 +8,7 @@ use native.Mathlib.Numerals.{add-one}
 use native.Mathlib.Omega.{arith}
 use lib.ListN.{length, take}
 use lib.Seq.{length-sets}
+use Rattle.std.specs.Prelude.{Some, None}
 use Rattle.tree.specs.Key.{Key, Bytes, key_max, strip}
 use Rattle.tree.specs.Map.{Pair, Pairs, past, next}
 use Rattle.tree.specs.Tree.{Forest, nil, node, Tree, Wf, room}
@@ -25,7 +26,6 @@ use Rattle.pool.proofs.Held.{tree-holds}
 use Rattle.pool.proofs.Ruled.{rule-tree}
 use Rattle.splice.proofs.Bares.{holds-bares}
 use Rattle.tree.specs.declared.RuleNo.{RuleNo}
-use Rattle.walk.specs.declared.Found.{Found}
 use Rattle.walk.specs.Due.{due, laid, LayRoom, Laid, Sought}
 use Rattle.walk.proofs.Due.{due-none, due-some}
 use Rattle.walk.proofs.Listed.{held, pairs_of, read_tree}
@@ -146,7 +146,7 @@ module _ {ws bs : List ℕ} {p : Key} {l : Option Key} {n : ℕ} {path₀ path :
       let h = tree-holds ws bs a.known.bytes t e in
       rw (listed a.known t h, read_tree t path₀ h.wf a.full)
 
-  pub sought_none : n ≤ i → Sought ws bs p l Found.Nothing path
+  pub sought_none : n ≤ i → Sought ws bs p l None path
   unfolding run pairs_of next
   sought_none h =
       let z : n - i ≡ 0 = omega arith in
@@ -187,7 +187,7 @@ module _ {ws bs : List ℕ} {p : Key} {l : Option Key} {n : ℕ} {path₀ path :
     unfolding held
     first g d = rw (some-num (has_of ws i) (number_of ws i) g) (next-given (take end path', number_of ws i) behind p l d)
 
-    pub sought_key : 0 < has_of ws i → true ≡ due p l (take end path') → (v : RuleNo) → v.0 ≡ number_of ws i → Sought ws bs p l (Found.Key end v) path'
+    pub sought_key : 0 < has_of ws i → true ≡ due p l (take end path') → (v : RuleNo) → v.0 ≡ number_of ws i → Sought ws bs p l (Some (record { length = end; number = v })) path'
     sought_key g d v q =
         let pair : ◌≡◌ {A = Pair} (take end path', number_of ws i) (take end path', v.0) = rw q in
         record { found = λ t u. whole t u ∙ here ∙ first g (sym d) ∙ ap some pair; inside = laid-inside }

@@ -1,19 +1,21 @@
 -- Which keys a walk may give, and what looking for the next one finds.
-use Rattle.std.specs.Prelude.{◌≡◌, List, Bool, true, false, ℕ, ◌+◌, ◌≤◌, length, take}
+use Rattle.std.specs.Prelude.{◌≡◌, List, Bool, true, false, ℕ, ◌+◌, ◌≤◌, length, take, Some, None}
+use Rattle.std.specs.Prelude.{Option as Maybe}
+use Rattle.std.specs.Borrow.{Bor}
 use Rattle.std.proofs.Math.Option.{Option, none, some}
 use Rattle.std.proofs.lemmas.List.Edits.{sets}
 use Rattle.tree.specs.Key.{Key, strip}
 use Rattle.tree.specs.Map.{Pair, past}
 use Rattle.tree.specs.Tree.{Tree}
 use Rattle.tree.specs.Walk.{step_t}
+use Rattle.tree.specs.declared.Stepped.{Stepped}
 use Rattle.slots.specs.Layout.{WordsIn, RoomIn, start_of, len_of, label_of}
 use Rattle.pool.specs.Pool.{pool_tree}
-use Rattle.walk.specs.declared.Found.{Found}
 
--- The last key given, if any was
-unfoldable pub last_if : (begun : Bool) → Key → Option Key
-last_if true l = some l
-last_if false l = none
+-- The last key given, if any was, as the code lends it
+abbrev pub lent_key : Maybe (Bor (List ℕ)) → Option Key
+lent_key (Some l) = some l.now
+lent_key None = none
 
 -- A key that starts with the prefix and comes after the last one given
 unfoldable pub due : (prefix : Key) (last : Option Key) → Key → Bool
@@ -41,15 +43,15 @@ pub record Laid (ws bs path : List ℕ) (i : ℕ) (path' : List ℕ) (len : ℕ)
   pub end : len ≡ start_of ws i + len_of ws i
 
 -- The key stands at the front of the path.
-abbrev pub found_of : Found → List ℕ → Option Pair
-found_of (Found.Key n v) path = some (take n path, v.0)
-found_of Found.Nothing path = none
+abbrev pub found_of : Maybe Stepped → List ℕ → Option Pair
+found_of (Some x) path = some (take x.length path, x.number.0)
+found_of None path = none
 
-abbrev pub found_end : Found → ℕ
-found_end (Found.Key n v) = n
-found_end Found.Nothing = 0
+abbrev pub found_end : Maybe Stepped → ℕ
+found_end (Some x) = x.length
+found_end None = 0
 
 -- The path holds the key of the walk's next step.
-pub record Sought (ws bs : List ℕ) (p : Key) (l : Option Key) (r : Found) (path : List ℕ) : Type 0 where
+pub record Sought (ws bs : List ℕ) (p : Key) (l : Option Key) (r : Maybe Stepped) (path : List ℕ) : Type 0 where
   pub found : (t : Tree) → pool_tree ws bs ≡ some t → step_t t p l ≡ found_of r path
   pub inside : found_end r ≤ length path

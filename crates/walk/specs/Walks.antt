@@ -1,15 +1,20 @@
 -- The walk: what it stands for, and what a step gives and leaves.
-use Rattle.std.specs.Prelude.{◌≡◌, List, ◌++◌, true, ℕ, zero, suc, ◌≤◌, length, take, replicate}
+use Rattle.std.specs.Prelude.{◌≡◌, List, ◌++◌, true, false, ℕ, zero, suc, ◌≤◌, ◌<◌, length, take, replicate, Some, None, Ok, Err}
+use Rattle.std.specs.Prelude.{Option as Maybe}
+use Rattle.std.specs.Borrow.{Bor}
 use Rattle.std.proofs.Math.Option.{Option, none, some}
 use Rattle.tree.specs.Key.{Key, key_max}
 use Rattle.tree.specs.Map.{Pair}
 use Rattle.tree.specs.Tree.{Tree}
 use Rattle.tree.specs.Walk.{step_t}
-use Rattle.tree.specs.Told.{stepped_told}
-use Rattle.tree.specs.Calls.{step_call}
+use Rattle.tree.specs.Told.{Answer, stepped_told}
+use Rattle.tree.specs.declared.Refusal.{Refusal}
+use Rattle.tree.specs.declared.Stepped.{Stepped}
+use Rattle.tree.specs.Calls.{last_fits, step_call}
 use Rattle.pool.specs.Lent.{Lent, tree_in}
 use Rattle.writer.specs.Post.{front}
-use Rattle.walk.specs.Due.{last_if}
+use Rattle.walk.specs.Due.{lent_key}
+use Rattle.walk.specs.declared.Key.{Key as Kept}
 use Rattle.walk.specs.declared.Walk.{Walk}
 use Rattle.walk.specs.declared.Step.{Step}
 
@@ -17,16 +22,44 @@ use Rattle.walk.specs.declared.Step.{Step}
 unfoldable pub padded : (len : ℕ) → List ℕ → Key
 padded len bs = take len (bs ++ replicate len 0)
 
+-- The key that a key of the code stands for
+abbrev pub key_of : Kept → Key
+key_of k = padded k.len k.bytes
+
+-- The code's key keeps a key. One over 4,096 bytes is not kept, but its length is.
+pub record Keeps (k : Key) (r : Kept) : Type 0 where
+  pub bytes : length k ≤ key_max → key_of r ≡ k
+  pub len : length (key_of r) ≡ length k
+
+-- Its bytes are lent if it is not too long.
+abbrev pub Lends : Kept → Answer (Bor (List ℕ)) → Type 0
+Lends k (Ok b) = (b.now ≡ key_of k) × (length (key_of k) ≤ key_max)
+Lends k (Err e) = (e ≡ Refusal.TooLong) × (key_max < length (key_of k))
+
 abbrev pub prefix_of : Walk → Key
-prefix_of w = padded w.prefix_len w.prefix
+prefix_of w = key_of w.prefix
 
 -- The last key given; a new walk has given none.
+abbrev pub last_key : Maybe Kept → Option Key
+last_key (Some k) = some (key_of k)
+last_key None = none
+
 abbrev pub last_of : Walk → Option Key
-last_of w = last_if w.begun (padded w.last_len w.last)
+last_of w = last_key w.last
+
+-- A last key is lent if it is not too long, and none is where none was given.
+abbrev pub LendsLast : Walk → Answer (Maybe (Bor (List ℕ))) → Type 0
+LendsLast w (Ok o) = (lent_key o ≡ last_of w) × (last_fits (last_of w) ≡ true)
+LendsLast w (Err e) = (e ≡ Refusal.TooLong) × (last_fits (last_of w) ≡ false)
 
 -- The walk with another last key, n bytes at the front of an array
 abbrev pub handed_on : Walk → (key : List ℕ) (n : ℕ) → Walk
-handed_on w key n = record { prefix = w.prefix; prefix_len = w.prefix_len; last = key; last_len = n; begun = true }
+handed_on w key n = record { prefix = w.prefix; last = Some (record { bytes = key; len = n }) }
+
+-- A step by its answer, the key that it gives at the front of a path
+abbrev pub stepped : Walk → Answer Stepped → (path : List ℕ) → Step
+stepped w (Ok x) path = record { answer = Ok x; walk = handed_on w path x.length }
+stepped w (Err e) path = record { answer = Err e; walk = w }
 
 -- A new walk under a prefix has given none. A prefix over 4,096 bytes is not kept, but its length is: every step then gives 2.
 pub record Begins (p : Key) (w : Walk) : Type 0 where

@@ -4,7 +4,7 @@ use mathlib.Core.List.{List}
 use mathlib.Core.Option.{Option}
 use Prim.Native.Nat.{ℕ}
 use Rattle.tree.specs.Tree.{Tree}
-use Rattle.tree.specs.Told.{Told}
+use Rattle.tree.specs.Told.{Told, Answer}
 use Rattle.tree.specs.Image.{image_t, numbers_t}
 use Rattle.tree.specs.declared.Written.{Written}
 use Rattle.tree.proofs.OneAnswer.{written_one}
@@ -27,10 +27,10 @@ decided {o} {x} {y} {tree} {numbers} {a} {b} {c} {d} p q =
     }
 
 -- And so does the code's answer.
-pub record Determined (r s : Written) (a b c d : List ℕ) : Type 0 where
+pub record Determined (r s : Answer Written) (a b c d : List ℕ) : Type 0 where
   pub answer : r ≡ s
   pub tree : a ≡ c
   pub numbers : b ≡ d
 
-pub write_determined : (was : Lent) (r s : Written) {tree numbers a b c d : List ℕ} → WriteAllows r was tree numbers a b → WriteAllows s was tree numbers c d → Determined r s a b c d
+pub write_determined : (was : Lent) (r s : Answer Written) {tree numbers a b c d : List ℕ} → WriteAllows r was tree numbers a b → WriteAllows s was tree numbers c d → Determined r s a b c d
 write_determined was r s p q = let e = decided p q in record { answer = written_one r s e.told; tree = e.tree; numbers = e.numbers }

@@ -2,7 +2,7 @@
 use Rattle.std.specs.Prelude.{◌≡◌, List, ◌++◌, ℕ, zero, suc, length, drop}
 use Rattle.std.proofs.Math.Option.{Option, none, some}
 use Rattle.tree.specs.Tree.{Tree}
-use Rattle.tree.specs.Told.{Told, written_told}
+use Rattle.tree.specs.Told.{Told, Answer, written_told}
 use Rattle.tree.specs.declared.Written.{Written}
 use Rattle.tree.specs.Image.{image_t, numbers_t}
 use Rattle.tree.specs.Calls.{write_call}
@@ -24,5 +24,5 @@ pub record Writes (o : Option Tree) (told : Told) (tree numbers tree' numbers' :
   pub nums : numbers' ≡ after o told.number numbers_t numbers
 
 -- What write allows: an answer, and the outputs that it leaves
-abbrev pub WriteAllows : Written → Lent → (tree numbers tree' numbers' : List ℕ) → Type 0
+abbrev pub WriteAllows : Answer Written → Lent → (tree numbers tree' numbers' : List ℕ) → Type 0
 WriteAllows r was tree numbers tree' numbers' = Writes (tree_in was) (written_told r) tree numbers tree' numbers'

@@ -11,7 +11,7 @@ ghost use Rattle.writer.specs.Post.{WriteAllows};
 ghost use Rattle.writer.specs.Parts.{record_at, follows_at, Followed, record_sum, numbers_in};
 ghost use Rattle.writer.specs.Runs.{Room, Put, RecordRoom, TreeRoom, RunPut, TreePut};
 
-use tree::{Level, Slot, Written};
+use tree::{Answer, Level, Refusal, Slot, Written};
 
 // How many bytes the image of n slots has: each record is four bytes and its label.
 fn image_length(words: &[u32], n: usize) -> usize
@@ -19,10 +19,8 @@ fn image_length(words: &[u32], n: usize) -> usize
     ensures { result ≡ record_sum words.now n }
 {
     let mut sum: usize = 0;
-    let mut i: usize = 0;
-    while i < n {
+    for i in 0..n {
         sum += 4 + slots::len_at(words, Slot(i));
-        i += 1;
     }
     sum
 }
@@ -53,7 +51,7 @@ fn write_record(
     let to = at + 4;
     let next = to + n;
     let label = slots::label_at(labels, words, slot);
-    label::copy(&mut out[to..next], label);
+    out[to..next].copy_from_slice(label);
     next
 }
 
@@ -69,13 +67,6 @@ fn follows(words: &[u32], slot: Slot, n: usize) -> bool
     slots::start_at(words, Slot(next)) == slots::start_at(words, slot)
 }
 
-// A level as the table keeps it.
-fn wide(x: u16) -> usize
-    ensures { (result ≡ x) × (result < 65536) }
-{
-    x as usize
-}
-
 // Writes the slots below the root, from slot 1 up to slot n, and gives the place behind them. They stand in the order of the
 // image, so one loop goes over them. A node's children start where its label ends: there each node leaves their level, and
 // each finds its own. What starts farther up stays in the table until all below it has been passed.
@@ -86,16 +77,14 @@ fn write_slots(labels: &[u8], words: &[u32], n: usize, out: &mut [u8], at: usize
         RunPut ws labels.now 1 n 1 out.old at out.new result }
 {
     let mut levels = [1u16; 4097];
-    let mut i: usize = 1;
     let mut place = at;
-    while i < n {
+    for i in 1..n {
         let start = slots::start_at(words, Slot(i));
         let end = start + slots::len_at(words, Slot(i));
-        let level = wide(levels[start]);
+        let level = usize::from(levels[start]);
         levels[end] = (level + 1) as u16;
         let sibling = follows(words, Slot(i), n);
         place = write_record(labels, words, Slot(i), Level(level), sibling, out, place);
-        i += 1;
     }
     place
 }
@@ -131,32 +120,32 @@ fn write_numbers(words: &[u32], n: usize, out: &mut [u64])
     ensures { out.new ≡ sets out.old 0 (numbers_in words.now n) }
 {
     let mut at: usize = 0;
-    let mut i: usize = 0;
-    while i < n {
+    for i in 0..n {
         at = write_number(words, Slot(i), out, at);
-        i += 1;
     }
 }
 
 // Writes the image of the pool's tree: each output has its part at the front, and with any refusal both stay as they
 // were. Both lengths are known and tested before anything is written. Counterpart: `Node::serialize`.
-pub fn write(labels: &[u8], words: &[u32], tree: &mut [u8], numbers: &mut [u64]) -> Written
+pub fn write(labels: &[u8], words: &[u32], tree: &mut [u8], numbers: &mut [u64]) -> Answer<Written>
     ensures { let was = lent labels.now words.now in
         WriteAllows result was tree.old numbers.old tree.new numbers.new }
 {
-    if !pool::is_pool(labels, words) {
-        return Written::NotPool;
-    }
+    pool::tested(labels, words)?;
     let n = slots::nodes_in(words);
     let bytes = image_length(words, n);
     let keys = pool::keys_in(words, n);
+    let lengths = Written {
+        bytes,
+        numbers: keys,
+    };
     if tree.len() < bytes {
-        return Written::Short(bytes, keys);
+        return Err(Refusal::ImageShort(lengths));
     }
     if numbers.len() < keys {
-        return Written::Short(bytes, keys);
+        return Err(Refusal::ImageShort(lengths));
     }
     write_tree(labels, words, tree);
     write_numbers(words, n, numbers);
-    Written::Lengths(bytes, keys)
+    Ok(lengths)
 }

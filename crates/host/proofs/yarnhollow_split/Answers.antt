@@ -1,7 +1,9 @@
 -- `host::yarnhollow_split` meets its contract. Assumes nothing.
-use Rattle.tree.specs.Told.{divided_told}
+use mathlib.Core.Path.{◌∙◌}
+use Rattle.tree.specs.Told.{bare_told}
 use Rattle.host.proofs.Handed.{returns-none, splits}
+use Rattle.tree.proofs.OneAnswer.{number_of_told}
 use Rattle.host.proofs.yarnhollow_split.Goals as goal
 
 pub returns : goal.returns
-returns c = splits _ c.split.ensures (returns-none (divided_told c.split.result) c.number.ensures)
+returns c = splits _ c.split.ensures (returns-none (bare_told c.split.result) (c.number.ensures ∙ number_of_told _ c.split.result))

@@ -15,11 +15,11 @@ keep_back-requires c =
     let m = c.move_slots.ensures in
     let p = c.requires in
     let f = here p.0 (when_moved m) (cut-within p.0 p.1.cuts) c.keep_front.ensures.0 in
-    keeps_back p.0 p.1.cuts (then (when_built b) (then (when_filled f) (when_moved m))) (before-lower c.args.number.0 p.0 p.1 p.2 p.3 c.start_at.ensures.0 m f b) (lower-within p.0 p.1 p.2)
+    keeps_back p.0 p.1.cuts (then (when_built b) (then (when_filled f) (when_moved m))) (before-lower c.args.fork.now.number.0 p.0 p.1 p.2 p.3 c.start_at.ensures.0 m f b) (lower-within p.0 p.1 p.2)
 
 pub returns : goal.returns
 returns c =
     let m = c.move_slots.ensures in
     let p = c.requires in
     let f = here p.0 (when_moved m) (cut-within p.0 p.1.cuts) c.keep_front.ensures.0 in
-    forked_before c.args.number.0 p.0 p.1 p.2 p.3 c.start_at.ensures.0 m (f, c.keep_front.ensures.1) c.chain.ensures c.keep_back.ensures
+    forked_before c.args.fork.now.number.0 p.0 p.1 p.2 p.3 c.start_at.ensures.0 m (f, c.keep_front.ensures.1) c.chain.ensures c.keep_back.ensures

@@ -25,4 +25,4 @@ returns c =
     let m = c.move_slots.ensures in
     let p = c.requires in
     let f = here p.0 (then (when_moved m₂) (when_moved m)) (cut-within p.0 p.1.cuts) c.keep_front.ensures.0 in
-    forked_behind c.args.number.0 p.0 p.1 p.2 p.3 c.start_at.ensures.0 c.span_at.ensures.0 m m₂ (f, c.keep_front.ensures.1) c.keep_back.ensures c.chain.ensures
+    forked_behind c.args.fork.now.number.0 p.0 p.1 p.2 p.3 c.start_at.ensures.0 c.span_at.ensures.0 m m₂ (f, c.keep_front.ensures.1) c.keep_back.ensures c.chain.ensures

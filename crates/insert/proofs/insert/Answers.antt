@@ -1,15 +1,19 @@
 -- `insert::insert` meets its contract. Assumes nothing.
-use native.Mathlib.Omega.{arith}
-use Rattle.tree.specs.Key.{key_max}
+use Rattle.std.proofs.lemmas.Result.{err_from_is_err_and}
 use Rattle.insert.proofs.Grown.{insert-refused, insert_long}
 use Rattle.insert.proofs.insert.Goals as goal
 
-pub returns-then-not-is_pool : goal.returns-then-not-is_pool
-returns-then-not-is_pool c = insert-refused _ _ _ _ (c.is_pool.ensures.no (c.if-not-is_pool.true))
+pub returns-in_err-pool : goal.returns-in_err-pool
+returns-in_err-pool c =
+    let p = err_from_is_err_and c.from_residual.result c.from_residual.ensures.1 in
+    let e = c.in_err-pool.ensures in
+    rw (p.1, p.2, e.0) (insert-refused _ _ _ _ e.1)
 
-pub returns-then-key-gt-KEY_MAX : goal.returns-then-key-gt-KEY_MAX
-returns-then-key-gt-KEY_MAX c = insert_long _ _ _ _ (c.is_pool.ensures.yes (c.if-not-is_pool.false)) c.if-key-gt-KEY_MAX.true
+pub returns-in_err-tested : goal.returns-in_err-tested
+returns-in_err-tested c =
+    let p = err_from_is_err_and c.from_residual-in_err-tested.result c.from_residual-in_err-tested.ensures.1 in
+    let e = c.in_err-tested.ensures in
+    rw (p.1, p.2, e.0) (insert_long _ _ _ _ c.in_ok-pool.ensures.1.rule e.1)
 
 pub insert_in-requires : goal.insert_in-requires
-unfolding key_max
-insert_in-requires c = (c.is_pool.ensures.yes (c.if-not-is_pool.false), omega arith)
+insert_in-requires c = rw c.in_ok-pool.ensures.0 at (rw c.in_ok-tested.ensures.0 at c.descend-d.ensures)

@@ -10,32 +10,32 @@ use Rattle.insert.proofs.place.Goals.{In-Root, In-Gap, In-Inside, In-Fork}
 
 -- what is known of the place, at each end of the search
 at_number : (c : In-Root) → let a = c.args in Known a.words.now a.labels.now a.key.now a.d
-at_number c = knows c.requires.0 c.requires.1 c.type_inv.labels c.requires.2
+at_number c = knows c.requires.0
 
 at_gap : (c : In-Gap) → let a = c.args in Known a.words.now a.labels.now a.key.now a.d
-at_gap c = knows c.requires.0 c.requires.1 c.type_inv.labels c.requires.2
+at_gap c = knows c.requires.0
 
 at_inside : (c : In-Inside) → let a = c.args in Known a.words.now a.labels.now a.key.now a.d
-at_inside c = knows c.requires.0 c.requires.1 c.type_inv.labels c.requires.2
+at_inside c = knows c.requires.0
 
 at_fork : (c : In-Fork) → let a = c.args in Known a.words.now a.labels.now a.key.now a.d
-at_fork c = knows c.requires.0 c.requires.1 c.type_inv.labels c.requires.2
+at_fork c = knows c.requires.0
 
 pub set_number-requires : goal.set_number-requires
 set_number-requires c = set_asks (at_number (goal.at.set_number-requires c).In-Root) c.in-Root.is
 
-pub slice_bounds-add_leaf-count : goal.slice_bounds-add_leaf-count
-slice_bounds-add_leaf-count c = gap-most (at_gap (goal.at.slice_bounds-add_leaf-count c).In-Gap) c.in-Gap.is
+pub slice_bounds-leaf-count : goal.slice_bounds-leaf-count
+slice_bounds-leaf-count c = gap-most (at_gap (goal.at.slice_bounds-leaf-count c).In-Gap) c.in-Gap.is
 
-pub slice_bounds-add_leaf-start : goal.slice_bounds-add_leaf-start
-slice_bounds-add_leaf-start c = gap-most (at_gap (goal.at.slice_bounds-add_leaf-start c).In-Gap) c.in-Gap.is
+pub slice_bounds-leaf-start : goal.slice_bounds-leaf-start
+slice_bounds-leaf-start c = gap-most (at_gap (goal.at.slice_bounds-leaf-start c).In-Gap) c.in-Gap.is
 
 pub add_leaf-requires : goal.add_leaf-requires
 add_leaf-requires c =
     let w = at_gap (goal.at.add_leaf-requires c).In-Gap in
     let e = c.in-Gap.is in
     let p = c.requires in
-    (p.3, gap_asks w e, gap-slots w _ p.4 e)
+    (p.1, gap_asks w e, gap-slots w _ p.2 e)
 
 pub add_cut-requires : goal.add_cut-requires
 add_cut-requires c =
@@ -43,28 +43,28 @@ add_cut-requires c =
     let e = c.in-Inside.is in
     let p = c.requires in
     let a = inside_asks w _ e in
-    (inside_grows w _ p.4 _ p.3 _ e, a.1, a.0)
+    (inside_grows w _ p.2 _ p.1 _ e, a.1, a.0)
 
 pub overflow_add-from : goal.overflow_add-from
 overflow_add-from c = from_fits (at_fork (goal.at.overflow_add-from c).In-Fork) _ c.in-Fork.is
 
-pub slice_bounds-add_fork-count : goal.slice_bounds-add_fork-count
-slice_bounds-add_fork-count c = from_most (at_fork (goal.at.slice_bounds-add_fork-count c).In-Fork) _ c.in-Fork.is
+pub slice_bounds-fork-count : goal.slice_bounds-fork-count
+slice_bounds-fork-count c = from_most (at_fork (goal.at.slice_bounds-fork-count c).In-Fork) _ c.in-Fork.is
 
-pub slice_bounds-add_fork-start : goal.slice_bounds-add_fork-start
-slice_bounds-add_fork-start c = from_most (at_fork (goal.at.slice_bounds-add_fork-start c).In-Fork) _ c.in-Fork.is
+pub slice_bounds-fork-start : goal.slice_bounds-fork-start
+slice_bounds-fork-start c = from_most (at_fork (goal.at.slice_bounds-fork-start c).In-Fork) _ c.in-Fork.is
 
 pub add_fork-requires : goal.add_fork-requires
 add_fork-requires c =
     let w = at_fork (goal.at.add_fork-requires c).In-Fork in
     let e = c.in-Fork.is in
     let p = c.requires in
-    (p.3, (fork_asks w _ e).1, fork-slots w _ p.4 _ e, p.0)
+    (p.1, (fork_asks w _ e).1, fork-slots w _ p.2 _ e, p.0.whole.rule)
 
 pub returns-in-Root : goal.returns-in-Root
 returns-in-Root c =
     let done = c.set_number.ensures in
-    let rule = c.requires.0 in
+    let rule = c.requires.0.whole.rule in
     set_meets (at_number (goal.at.returns-in-Root c).In-Root) c.in-Root.is (bytes_of c.args.key.now c.type_inv.key) _ done.told (done.placed _ rule)
 
 pub returns-in-Gap : goal.returns-in-Gap

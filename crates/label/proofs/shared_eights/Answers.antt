@@ -8,13 +8,13 @@ pub returns-then-not-eight_same : goal.returns-then-not-eight_same
 returns-then-not-eight_same c =
     let lent = c.args in
     let off = sym c.eight_same.ensures ∙ c.if-not-eight_same.true in
-    omega (arith, step_off lent.k.now lent.l.now c.loop-i.i (omega arith) 8 off)
+    omega (arith, step_off lent.k.now lent.l.now _ (omega arith) 8 off)
 
-pub loop-i-preserved : goal.loop-i-preserved
-loop-i-preserved c =
+pub loop-n-preserved : goal.loop-n-preserved
+loop-n-preserved c =
     let lent = c.args in
     let on = sym c.eight_same.ensures ∙ c.if-not-eight_same.false in
-    omega (arith, step_on lent.k.now lent.l.now c.loop-i.i (omega arith) 8 on)
+    omega (arith, step_on lent.k.now lent.l.now _ (omega arith) 8 on)
 
 pub returns : goal.returns
 returns c =

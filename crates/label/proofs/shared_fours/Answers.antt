@@ -3,14 +3,10 @@ use mathlib.Core.Path.{sym, ◌∙◌}
 use native.Mathlib.Omega.{arith}
 use Rattle.label.proofs.Eights.{common-within, step_on, step_off}
 use Rattle.label.proofs.shared_fours.Goals as goal
+use Rattle.label.proofs.shared_fours.Goals.{else-left-ge4-via-then-left-ge4+else-four_same, else-left-ge4-via-else-left-ge4}
 
-pub overflow_sub-shorter : goal.overflow_sub-shorter
-overflow_sub-shorter c =
-    let lent = c.args in
-    omega (arith, common-within lent.k.now lent.l.now)
-
-pub returns-then-shorter-i-lt4 : goal.returns-then-shorter-i-lt4
-returns-then-shorter-i-lt4 c =
+pub overflow_sub-left : goal.overflow_sub-left
+overflow_sub-left c =
     let lent = c.args in
     omega (arith, common-within lent.k.now lent.l.now)
 
@@ -22,6 +18,11 @@ returns-then-four_same c =
 
 pub returns : goal.returns
 returns c =
-    let lent = c.args in
-    let off = sym c.four_same.ensures ∙ c.if-four_same.false in
-    omega (arith, step_off lent.k.now lent.l.now lent.i (omega arith) 4 off)
+    let k = c.args.k.now in
+    let l = c.args.l.now in
+    elim c.else-left-ge4.branch [
+      | else-left-ge4-via-then-left-ge4+else-four_same w ↦
+          let off = sym w.four_same.ensures ∙ w.if-four_same.false in
+          omega (arith, step_off k l c.args.i (omega arith) 4 off)
+      | else-left-ge4-via-else-left-ge4 w ↦ omega (arith, common-within k l)
+    ]

@@ -3,11 +3,6 @@ use native.Mathlib.Omega.{arith}
 use Rattle.label.proofs.Eights.{common-within, common-next, common-at}
 use Rattle.label.proofs.shared_singly.Goals as goal
 
-pub loop-i-init : goal.loop-i-init
-loop-i-init c =
-    let lent = c.args in
-    omega (arith, common-within lent.k.now lent.l.now)
-
 pub returns-then-k-i : goal.returns-then-k-i
 returns-then-k-i c =
     let lent = c.args in
@@ -15,9 +10,8 @@ returns-then-k-i c =
 
 pub loop-i-preserved : goal.loop-i-preserved
 loop-i-preserved c =
-    let k = c.args.k.now in
-    let l = c.args.l.now in
-    omega (arith, common-next k l c.loop-i.i (omega arith) (omega arith) (omega arith) c.if-k-i.false)
+    let lent = c.args in
+    common-next lent.k.now lent.l.now c.loop-i.i (omega arith) (omega arith) (omega arith) c.if-k-i.false
 
 pub returns : goal.returns
 returns c =

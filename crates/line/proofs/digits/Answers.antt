@@ -1,29 +1,20 @@
 -- `line::digits` meets its contract: each turn reads one digit. Assumes nothing.
-use native.Mathlib.Omega.{arith}
-use mathlib.Core.Path.{refl}
-use Rattle.line.proofs.Turns.{valuing_none, valuing_step, valuing_done, value-more, value_grows}
-use lib.ListN.{length}
-use Prim.Native.Nat.{◌+◌}
+use Rattle.std.proofs.Common.{arith}
+use Rattle.line.proofs.Turns.{valuing_none, valuing_step, value_over}
 use Rattle.line.proofs.digits.Goals as goal
 
-pub returns-then-d-gt9 : goal.returns-then-d-gt9
-returns-then-d-gt9 c =
-    λ d.
-    omega (arith, d.each c.loop-i.i (omega arith), c.nibble-d.ensures)
+pub loop-b-init : goal.loop-b-init
+loop-b-init c = valuing_none _
 
-pub returns-then-n-d : goal.returns-then-n-d
-returns-then-n-d c =
-    λ d.
-    let s = c.args.s.now in
-    omega (arith, d.fits, value-more s c.loop-i.i, value_grows s (c.loop-i.i + 1) (length s) (omega arith), c.nibble-d.ensures)
+pub returns-in_err-checked_mul : goal.returns-in_err-checked_mul
+returns-in_err-checked_mul c =
+    rw c.from_residual-in_err-checked_mul.ensures (value_over _ _ _ c.in_ok-d.d (omega arith) c.loop-b.invariant c.in_ok-d.ensures.0 (omega (arith, c.in_err-checked_mul.ensures)))
 
-pub loop-i-preserved : goal.loop-i-preserved
-loop-i-preserved c =
-    let d = c.nibble-d in
-    valuing_step _ _ c.loop-i.i d.result _ (omega arith) d.ensures (omega arith) refl (omega arith) c.loop-i.invariant
+pub returns-in_err-n : goal.returns-in_err-n
+returns-in_err-n c =
+    rw c.from_residual-in_err-n.ensures (value_over _ _ _ c.in_ok-d.d (omega arith) c.loop-b.invariant c.in_ok-d.ensures.0 (omega (arith, c.in_err-n.ensures, c.in_ok-checked_mul.ensures, c.from.ensures)))
 
-pub returns : goal.returns
-returns c = valuing_done _ _ _ (omega arith) c.loop-i.invariant
-
-pub loop-i-init : goal.loop-i-init
-loop-i-init c = valuing_none _
+pub loop-b-preserved : goal.loop-b-preserved
+loop-b-preserved c =
+    valuing_step _ c.loop-b.n _ c.in_ok-d.d _ (omega arith) c.in_ok-d.ensures.0 (omega arith) (omega (arith, c.in_ok-n.ensures, c.in_ok-checked_mul.ensures, c.from.ensures))
+    (omega (arith, c.in_ok-n.ensures)) c.loop-b.invariant

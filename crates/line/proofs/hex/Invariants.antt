@@ -1,10 +1,6 @@
 -- `line::hex` meets its contract: each turn reads two digits. Assumes nothing.
 use Rattle.line.proofs.Turns.{Hexing}
-use Prim.Native.Nat.{◌-◌, ◌≤◌}
 use Rattle.line.proofs.hex.Given as goal
 
 abbrev pub invariant-loop-i : goal.invariant-loop-i
-invariant-loop-i l = Hexing l.s l.initial.out l.out l.i × (l.i ≤ l.n)
-
-abbrev pub decreases-loop-i : goal.decreases-loop-i
-decreases-loop-i l = l.n - l.i
+invariant-loop-i l = Hexing l.s l.initial.out l.out l.i

@@ -1,33 +1,23 @@
 -- `line::many` meets its contract: each turn takes one number. Assumes nothing.
-use Rattle.line.proofs.Lists.{listing_none, listing_bad, listing_last, listing_step, listing_full, comma, numbered}
-use native.Mathlib.Omega.{arith}
-use lib.ListN.{length-set}
+use Rattle.std.proofs.Common.{arith, ◌≡◌, ◌+◌, drop, length-set}
+use Rattle.line.specs.Spelling.{index_of}
+use Rattle.line.proofs.Lists.{listing_bad, listing_last, listing_step, behind_comma}
 use Rattle.line.proofs.many.Goals as goal
+
+pub returns-in_err-out : goal.returns-in_err-out
+returns-in_err-out c =
+    rw c.from_residual.ensures (listing_bad (rw (c.split_at.ensures.front, c.find.ensures.0) at c.in_err-out.ensures) c.loop-k.invariant)
 
 pub returns-in_default : goal.returns-in_default
 returns-in_default c =
-    let f = c.find-e.ensures in
-    listing_bad c.number.result _ _ _ _ _ _ (comma _ _ _ f.0 f.1) c.number.ensures c.in_default.is c.loop-k.invariant
-
-pub returns-then-e-s : goal.returns-then-e-s
-returns-then-e-s c =
-    let f = c.find-e.ensures in
-    let comes = comma _ _ _ f.0 f.1 in
-    let n = numbered c.number.result _ _ _ _ comes c.number.ensures c.in-Is.is in
-    (simp length-set (omega arith), listing_last _ _ _ _ _ _ _ (omega arith) comes c.if-e-s.true n c.loop-k.invariant)
+    let n = rw (c.split_at.ensures.front, c.find.ensures.0) at c.in_ok-out.ensures in
+    let e = c.in_default.ensures in
+    (simp length-set (omega arith), listing_last (omega arith) (omega arith) n c.loop-k.invariant)
 
 pub loop-k-preserved : goal.loop-k-preserved
 loop-k-preserved c =
-    let f = c.find-e.ensures in
-    let comes = comma _ _ _ f.0 f.1 in
-    let n = numbered c.number.result _ _ _ _ comes c.number.ensures c.in-Is.is in
-    listing_step _ _ _ _ _ _ _ (omega arith) comes c.if-e-s.false n c.loop-k.invariant
-
-pub returns : goal.returns
-returns c = listing_full _ _ _ _ _ (omega arith) c.loop-k.invariant
-
-pub loop-k-init : goal.loop-k-init
-loop-k-init c = listing_none _ _
-
-pub loop-k-smaller : goal.loop-k-smaller
-loop-k-smaller c = simp length-set (omega arith)
+    let d = c.loop-k.rest.now in
+    let n = rw (c.split_at.ensures.front, c.find.ensures.0) at c.in_ok-out.ensures in
+    let cases = c.in-Some.ensures.cases in
+    let more : c.in-Some.more.now ≡ drop (index_of 44 d + 1) d = behind_comma d c.find.ensures.0 c.split_at.ensures.back cases.0 in
+    rw more (listing_step (omega arith) (omega arith) n c.loop-k.invariant)

@@ -7,9 +7,9 @@ use Rattle.pool.proofs.Decode.{slots_of_lem as right_slots}
 use Rattle.pool.proofs.is_pool.Goals as goal
 
 pub tree_ok-requires : goal.tree_ok-requires
-tree_ok-requires c = lengths-right _ _ _ (sym (rw c.in-Slots.is at c.slots_of.ensures))
+tree_ok-requires c = lengths-right _ _ _ (sym (rw c.in-Some.is at c.slots_of.ensures))
 
-pub returns-in-Wrong : goal.returns-in-Wrong
-returns-in-Wrong c =
-    let e = rw c.in-Wrong.is at c.slots_of.ensures in
+pub returns-in-None : goal.returns-in-None
+returns-in-None c =
+    let e = rw c.in-None.is at c.slots_of.ensures in
     says_no (λ r. none-some r.slots (e ∙ right_slots _ _ _ r.lengths))

@@ -11,8 +11,8 @@ decreases-check_kids l = 2 * (length l.tree.now - l.from.at) + 1
 abbrev pub decreases-check_node : goal.decreases-check_node
 decreases-check_node l = 2 * (length l.tree.now - l.from.at)
 
-abbrev pub invariant-check_kids-loop-level : goal.invariant-check_kids-loop-level
-invariant-check_kids-loop-level l = Walk l.tree l.level.0 l.path l.initial.m l.least l.m
+abbrev pub invariant-check_kids-loop-next : goal.invariant-check_kids-loop-next
+invariant-check_kids-loop-next l = Walk l.tree l.level.0 l.path l.initial.m l.least l.m
 
-abbrev pub decreases-check_kids-loop-level : goal.decreases-check_kids-loop-level
-decreases-check_kids-loop-level l = length l.tree - l.m.at
+abbrev pub decreases-check_kids-loop-next : goal.decreases-check_kids-loop-next
+decreases-check_kids-loop-next l = length l.tree - l.m.at

@@ -2,47 +2,50 @@
 use mathlib.Core.Path.{◌≡◌, refl, sym, ◌∙◌}
 use native.Mathlib.Omega.{arith}
 use lib.ListN.{get_or}
+use Rattle.std.proofs.lemmas.Result.{err_from_is_err_and}
 use Rattle.flags.proofs.Judged.{below_root}
 use Rattle.reader.specs.Check.{start}
 use Rattle.reader.proofs.Walk.{Passed, node-passed, node-broken, node-leaf, node-deep}
 use Rattle.reader.proofs.check_root.Goals as goal
-use Rattle.reader.proofs.check_root.Goals.{In_default}
+use Rattle.reader.proofs.check_root.Goals.{In_ok-test_root}
 
 -- a root that passed its tests
-passed : (c : In_default) → Passed c.args.tree.now 0 0 (start c.args.numbers)
-passed c = node-passed c.args.tree.now 0 0 0 (start c.args.numbers) (rw c.in_default.is at c.test_root-found.ensures)
+passed : (c : In_ok-test_root) → Passed c.args.tree.now 0 0 (start c.args.numbers)
+passed c = node-passed c.args.tree.now 0 0 0 (start c.args.numbers) c.in_ok-test_root.ensures
 
-bare : (c : In_default) → get_or c.args.tree.now 1 0 ≡ 0
+bare : (c : In_ok-test_root) → get_or c.args.tree.now 1 0 ≡ 0
 bare c =
     let r = below_root 0 refl in
     let o = passed c in
     omega arith
 
-pub returns-in-Broken : goal.returns-in-Broken
-returns-in-Broken c = node-broken _ _ _ _ _ _ _ (rw c.in-Broken.is at c.test_root-found.ensures)
+pub returns-in_err-test_root : goal.returns-in_err-test_root
+returns-in_err-test_root c =
+    let p = err_from_is_err_and c.from_residual.result c.from_residual.ensures.1 in
+    rw (p.1, p.2) (node-broken _ _ _ _ _ _ c.in_err-test_root.ensures)
 
 pub bounds-tree-0 : goal.bounds-tree-0
-bounds-tree-0 c = let o = passed (goal.at.bounds-tree-0 c).In_default in omega arith
+bounds-tree-0 c = let o = passed (goal.at.bounds-tree-0 c).In_ok-test_root in omega arith
 
-pub overflow_sub-left : goal.overflow_sub-left
-overflow_sub-left c = let o = passed (goal.at.overflow_sub-left c).In_default in omega arith
+pub overflow_sub-past : goal.overflow_sub-past
+overflow_sub-past c = let o = passed (goal.at.overflow_sub-past c).In_ok-test_root in omega arith
 
 pub bounds-tree-0-2 : goal.bounds-tree-0-2
-bounds-tree-0-2 c = let o = passed (goal.at.bounds-tree-0-2 c).In_default in omega arith
+bounds-tree-0-2 c = let o = passed (goal.at.bounds-tree-0-2 c).In_ok-test_root in omega arith
 
 pub returns-then-has_child-eq0 : goal.returns-then-has_child-eq0
 returns-then-has_child-eq0 c =
-    let e = rw c.in_default.is at c.test_root-found.ensures in
-    let z = bare (goal.at.returns-then-has_child-eq0 c).In_default in
+    let e = c.in_ok-test_root.ensures in
+    let z = bare (goal.at.returns-then-has_child-eq0 c).In_ok-test_root in
     let leaf = node-leaf c.args.tree.now 0 0 0 (start c.args.numbers) e (sym c.has_child.ensures.0 ∙ c.if-has_child-eq0.true) (omega arith) in
-    rw (c.went.ensures, c.has_number.ensures.0) (rw z at leaf)
+    rw (c.has_number.ensures.0) (rw z at leaf)
 
 pub check_kids-requires : goal.check_kids-requires
-check_kids-requires c = let o = passed (goal.at.check_kids-requires c).In_default in omega arith
+check_kids-requires c = let o = passed (goal.at.check_kids-requires c).In_ok-test_root in omega arith
 
 pub returns : goal.returns
 returns c =
-    let e = rw c.in_default.is at c.test_root-found.ensures in
-    let z = bare (goal.at.returns c).In_default in
+    let e = c.in_ok-test_root.ensures in
+    let z = bare (goal.at.returns c).In_ok-test_root in
     let q = rw c.has_number.ensures.0 at c.check_kids.ensures in
     node-deep c.args.tree.now 0 0 0 (start c.args.numbers) _ e (λ h. c.if-has_child-eq0.false (c.has_child.ensures.0 ∙ h)) (rw z q)

@@ -6,12 +6,12 @@ use Rattle.tree.proofs.Judge.{passed}
 use Rattle.reader.proofs.Tests.{broken-at, below-is}
 use Rattle.reader.proofs.test_body.Goals as goal
 
-pub returns-then-wide-least : goal.returns-then-wide-least
-returns-then-wide-least c = broken-at _ 0 tt (omega arith)
+pub returns-then-from-least : goal.returns-then-from-least
+returns-then-from-least c = broken-at _ 0 tt (omega arith)
 
-pub returns-then-path-wide-gt-KEY_MAX : goal.returns-then-path-wide-gt-KEY_MAX
+pub returns-then-path-from-gt-KEY_MAX : goal.returns-then-path-from-gt-KEY_MAX
 unfolding key_max
-returns-then-path-wide-gt-KEY_MAX c = broken-at _ 1 (omega arith) (omega arith)
+returns-then-path-from-gt-KEY_MAX c = broken-at _ 1 (omega arith) (omega arith)
 
 pub returns-then-has-has_child-lt1 : goal.returns-then-has-has_child-lt1
 unfolding key_max

@@ -13,9 +13,9 @@ drop_number-requires c = (found-slot c.requires).0
 pub tidy-requires : goal.tidy-requires
 tidy-requires c = found_climbing c.requires _ (c.drop_number.ensures _)
 
-pub returns-in-Nothing : goal.returns-in-Nothing
-returns-in-Nothing c = λ x. not_stored x (sym (ap stored_of c.in-Nothing.is) ∙ c.stored_at.ensures)
+pub returns-in-None : goal.returns-in-None
+returns-in-None c = λ x. not_stored x (sym (ap stored_of c.in-None.is) ∙ c.stored_at.ensures)
 
-pub returns-in-Number : goal.returns-in-Number
-returns-in-Number c =
-    λ x. stored x _ _ _ _ (sym (ap stored_of c.in-Number.is) ∙ c.stored_at.ensures) (c.drop_number.ensures _) (c.tidy.ensures (found_climbing x _ (c.drop_number.ensures _)))
+pub returns-in-Some : goal.returns-in-Some
+returns-in-Some c =
+    λ x. stored x _ _ _ _ (sym (ap stored_of c.in-Some.is) ∙ c.stored_at.ensures) (c.drop_number.ensures _) (c.tidy.ensures (found_climbing x _ (c.drop_number.ensures _)))

@@ -1,10 +1,11 @@
 -- `search::best_at` meets its contract. Assumes nothing.
-use native.Mathlib.Omega.{arith}
-use Rattle.search.proofs.Meets.{met-none, met_some}
+use Rattle.tree.specs.Search.{met}
 use Rattle.search.proofs.best_at.Goals as goal
 
-pub returns : goal.returns
-returns c = met_some _ _ _ _ _ (λ z. omega arith) c.number_at.ensures
+pub returns-in-Some : goal.returns-in-Some
+unfolding met
+returns-in-Some c = rw (← c.in-Some.ensures)
 
-pub returns-then-has_at-eq0 : goal.returns-then-has_at-eq0
-returns-then-has_at-eq0 c = met-none _ _ _ _ (omega arith)
+pub returns-in-None : goal.returns-in-None
+unfolding met
+returns-in-None c = rw (← c.in-None.ensures)

@@ -1,15 +1,19 @@
 -- `search::get` meets its contract. Assumes nothing.
-use native.Mathlib.Omega.{arith}
-use Rattle.tree.specs.Key.{key_max}
+use Rattle.std.proofs.lemmas.Result.{err_from_is_err_and}
 use Rattle.search.proofs.Answers.{get_refused, get_long}
 use Rattle.search.proofs.get.Goals as goal
 
-pub returns-then-not-is_pool : goal.returns-then-not-is_pool
-returns-then-not-is_pool c = get_refused _ _ _ (c.is_pool.ensures.no (c.if-not-is_pool.true))
+pub returns-in_err-pool : goal.returns-in_err-pool
+returns-in_err-pool c =
+    let p = err_from_is_err_and c.from_residual.result c.from_residual.ensures.1 in
+    let e = c.in_err-pool.ensures in
+    rw (p.1, p.2, e.0) (get_refused _ _ _ e.1)
 
-pub returns-then-key-gt-KEY_MAX : goal.returns-then-key-gt-KEY_MAX
-returns-then-key-gt-KEY_MAX c = get_long _ _ _ (c.is_pool.ensures.yes (c.if-not-is_pool.false)) (omega arith)
+pub returns-in_err-key : goal.returns-in_err-key
+returns-in_err-key c =
+    let p = err_from_is_err_and c.from_residual-in_err-key.result c.from_residual-in_err-key.ensures.1 in
+    let e = c.in_err-key.ensures in
+    rw (p.1, p.2, e.0) (get_long _ _ _ c.in_ok-pool.ensures.1.rule e.1)
 
-pub get_in-requires : goal.get_in-requires
-unfolding key_max
-get_in-requires c = (c.is_pool.ensures.yes (c.if-not-is_pool.false), omega arith)
+pub returns : goal.returns
+returns c = rw c.in_ok-pool.ensures.0 at (rw c.in_ok-key.ensures.0 at c.get_in.ensures)

@@ -2,6 +2,7 @@
 use mathlib.Core.Path.{◌≡◌, ◌∙◌}
 use Prim.Native.Nat.{◌-◌}
 use lib.ListN.{length, take, drop}
+use Rattle.std.specs.Cmp.{ranked}
 use Rattle.slots.specs.Layout.{label_of}
 use Rattle.search.specs.Landing.{meeting_of}
 use Rattle.search.proofs.Meets.{meets_below, meets_above, meets_runs, by_lengths, by_same, by_through, by_inside, by_fork, run_on}
@@ -14,19 +15,19 @@ runs : (c : goal.After-shared_length-m)
     by_lengths c.shared_length-m.result (length (take (length a.key.now - a.p) (drop a.p a.key.now))) (length c.label_at-label.result.now)
     ≡ meeting_of (drop a.p a.key.now) (label_of a.words.now a.labels.now a.c.0)
 runs c =
-    let e = rw c.in-Same.is at c.cmp_first_item.ensures in
+    let e = ranked _ _ _ c.in-Equal.ensures in
     meets_runs c.args.words.now c.args.labels.now c.args.key.now c.args.c.0 c.args.p _ c.requires.0 c.requires.1 c.first_at.ensures.0 e _ _ _
     (run_on c.args.key.now c.args.p) c.label_at-label.ensures c.shared_length-m.ensures
 
-pub returns-in-Below : goal.returns-in-Below
-returns-in-Below c =
+pub returns-in-Less : goal.returns-in-Less
+returns-in-Less c =
     meets_below c.args.words.now c.args.labels.now c.args.key.now c.args.c.0 c.args.p _ c.requires.0 c.requires.1 c.first_at.ensures.0
-    (rw c.in-Below.is at c.cmp_first_item.ensures)
+    (ranked _ _ _ c.in-Less.ensures)
 
-pub returns-in-Above : goal.returns-in-Above
-returns-in-Above c =
+pub returns-in-Greater : goal.returns-in-Greater
+returns-in-Greater c =
     meets_above c.args.words.now c.args.labels.now c.args.key.now c.args.c.0 c.args.p _ c.requires.0 c.requires.1 c.first_at.ensures.0
-    (rw c.in-Above.is at c.cmp_first_item.ensures)
+    (ranked _ _ _ c.in-Greater.ensures)
 
 pub returns-then-m-rest : goal.returns-then-m-rest
 returns-then-m-rest c =

@@ -1,10 +1,11 @@
 -- `search::number_in` meets its contract. Assumes nothing.
-use native.Mathlib.Omega.{arith}
-use Rattle.search.proofs.Answers.{number-none, number-some}
+use Rattle.tree.specs.Calls.{number_told}
 use Rattle.search.proofs.number_in.Goals as goal
 
-pub returns : goal.returns
-returns c = number-some _ _ _ _ (λ z. omega arith) c.number_at.ensures
+pub returns-in-Some : goal.returns-in-Some
+unfolding number_told
+returns-in-Some c = rw (← c.in-Some.ensures)
 
-pub returns-then-has_at-eq0 : goal.returns-then-has_at-eq0
-returns-then-has_at-eq0 c = number-none _ _ _ (omega arith)
+pub returns-in-None : goal.returns-in-None
+unfolding number_told
+returns-in-None c = rw (← c.in-None.ensures)

@@ -1,15 +1,19 @@
 -- `search::shared` meets its contract. Assumes nothing.
-use native.Mathlib.Omega.{arith}
-use Rattle.tree.specs.Key.{key_max}
+use Rattle.std.proofs.lemmas.Result.{err_from_is_err_and}
 use Rattle.search.proofs.Answers.{shared-refused, shared_long}
 use Rattle.search.proofs.shared.Goals as goal
 
-pub returns-then-not-is_pool : goal.returns-then-not-is_pool
-returns-then-not-is_pool c = shared-refused _ _ _ (c.is_pool.ensures.no (c.if-not-is_pool.true))
+pub returns-in_err-pool : goal.returns-in_err-pool
+returns-in_err-pool c =
+    let p = err_from_is_err_and c.from_residual.result c.from_residual.ensures.1 in
+    let e = c.in_err-pool.ensures in
+    rw (p.1, p.2, e.0) (shared-refused _ _ _ e.1)
 
-pub returns-then-query-gt-KEY_MAX : goal.returns-then-query-gt-KEY_MAX
-returns-then-query-gt-KEY_MAX c = shared_long _ _ _ (c.is_pool.ensures.yes (c.if-not-is_pool.false)) (omega arith)
+pub returns-in_err-query : goal.returns-in_err-query
+returns-in_err-query c =
+    let p = err_from_is_err_and c.from_residual-in_err-query.result c.from_residual-in_err-query.ensures.1 in
+    let e = c.in_err-query.ensures in
+    rw (p.1, p.2, e.0) (shared_long _ _ _ c.in_ok-pool.ensures.1.rule e.1)
 
-pub shared_in-requires : goal.shared_in-requires
-unfolding key_max
-shared_in-requires c = (c.is_pool.ensures.yes (c.if-not-is_pool.false), omega arith)
+pub returns : goal.returns
+returns c = rw c.in_ok-pool.ensures.0 at (rw c.in_ok-query.ensures.0 at c.shared_in.ensures)

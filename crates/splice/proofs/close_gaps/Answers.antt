@@ -5,7 +5,7 @@ use Rattle.splice.proofs.close_gaps.Goals as goal
 
 pub loop-i-preserved : goal.loop-i-preserved
 loop-i-preserved c =
-    (omega arith, sweep_on _ _ _ _ _ _ c.loop-i.invariant.1 (omega (arith, c.loop-i.invariant.1.len_b)) _ _ _ c.sweep_slot-to.ensures)
+    sweep_on _ _ _ _ _ _ c.loop-i.invariant (omega (arith, c.loop-i.invariant.len_b)) _ _ _ c.sweep_slot-to.ensures
 
 pub loop-i-init : goal.loop-i-init
-loop-i-init c = (omega arith, sweep_none _ _)
+loop-i-init c = sweep_none _ _

@@ -1,10 +1,6 @@
 -- `splice::close_gaps` meets its contract: the slots passed stand close together. Assumes nothing.
-use Prim.Native.Nat.{◌≤◌, ◌-◌}
 use Rattle.splice.proofs.Gaps.{Sweeping}
 use Rattle.splice.proofs.close_gaps.Given as goal
 
 abbrev pub invariant-loop-i : goal.invariant-loop-i
-invariant-loop-i l = (l.i ≤ l.n) × Sweeping l.initial.words l.initial.labels l.words l.labels l.i l.to.0
-
-abbrev pub decreases-loop-i : goal.decreases-loop-i
-decreases-loop-i l = l.n - l.i
+invariant-loop-i l = Sweeping l.initial.words l.initial.labels l.words l.labels l.i l.to.0

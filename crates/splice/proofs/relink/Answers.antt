@@ -5,4 +5,4 @@ use Rattle.splice.proofs.relink.Goals as goal
 
 pub loop-i-preserved : goal.loop-i-preserved
 loop-i-preserved c =
-    (omega arith, linking_step _ _ _ _ _ _ (omega arith) (omega arith) (omega arith) c.extent-span.ensures.0 c.set_span.ensures c.loop-i.invariant.1)
+    linking_step _ _ _ _ _ _ (omega arith) (omega arith) (omega arith) c.extent-span.ensures.0 c.set_span.ensures c.loop-i.invariant

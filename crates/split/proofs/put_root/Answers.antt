@@ -5,4 +5,4 @@ use Rattle.split.proofs.Lifts.{rooted}
 use Rattle.split.proofs.put_root.Goals as goal
 
 pub returns : goal.returns
-returns c = rooted _ _ _ _ _ _ _ (omega arith) refl refl refl refl refl c.put_words.ensures c.set_nodes.ensures
+returns c = rooted _ _ _ _ _ _ (omega arith) refl refl refl refl c.put_words.ensures c.set_nodes.ensures

@@ -1,24 +1,73 @@
--- `split::split` meets its contract. Assumes nothing.
-use mathlib.Core.Path.{ap, sym, ◌∙◌}
-use native.Mathlib.Omega.{arith}
-use Rattle.tree.specs.Key.{key_max}
-use Rattle.pool.specs.Fields.{sized_of}
+-- `split::split` meets its contract, by where the search has ended. Assumes nothing.
+use mathlib.Core.Path.{sym}
+use Rattle.std.proofs.lemmas.Result.{err_from_is_err_and}
+use Rattle.tree.proofs.Exits.{was-some, was-none}
+use Rattle.pool.specs.Rule.{Lengths}
 use Rattle.pool.proofs.Decode.{lengths-right}
-use Rattle.split.proofs.Halves.{first-refused, second-refused, prefix_long}
+use Rattle.search.specs.declared.Stop.{Stop}
+use Rattle.search.proofs.Answers.{Known, knows}
+use Rattle.split.proofs.Halves.{landed, landed_root, absent_told, first-refused, second-refused, prefix_long}
 use Rattle.split.proofs.split.Goals as goal
+use Rattle.split.proofs.split.Goals.{After-descend-d}
 
-pub returns-then-not-is_pool : goal.returns-then-not-is_pool
-returns-then-not-is_pool c = first-refused _ _ _ _ _ (c.is_pool.ensures.no (c.if-not-is_pool.true))
+-- what is known behind the descent, and of the second pool
+known : (c : goal.After-descend-d) → let a = c.args in Known a.words.now a.labels.now a.prefix.now c.descend-d.result
+known c = knows (rw c.in_ok-pool.ensures.0 at (rw c.in_ok-tested.ensures.0 at c.descend-d.ensures))
 
-pub returns-in_default : goal.returns-in_default
-returns-in_default c =
-    second-refused _ _ _ _ _ (c.is_pool.ensures.yes (c.if-not-is_pool.false)) (sym (ap sized_of c.in_default.is) ∙ c.slots_of.ensures)
+sized : (c : goal.After-descend-d) → Lengths c.args.words2.now c.args.labels2.now c.in_ok-room.room
+sized c =
+    let w = was-some c.slots_of.result _ c.in_ok-room.ensures.value in
+    lengths-right _ _ _ (sym (rw w at c.slots_of.ensures))
 
-pub returns-then-prefix-gt-KEY_MAX : goal.returns-then-prefix-gt-KEY_MAX
-returns-then-prefix-gt-KEY_MAX c =
-    prefix_long _ _ _ _ _ _ (c.is_pool.ensures.yes (c.if-not-is_pool.false)) (sym (ap sized_of c.in-Slots.is) ∙ c.slots_of.ensures) c.if-prefix-gt-KEY_MAX.true
+pub returns-in_err-pool : goal.returns-in_err-pool
+returns-in_err-pool c =
+    let p = err_from_is_err_and c.from_residual.result c.from_residual.ensures.1 in
+    let e = c.in_err-pool.ensures in
+    rw (p.1, p.2, e.0) (first-refused _ _ _ _ _ e.1)
 
-pub split_in-requires : goal.split_in-requires
-unfolding key_max
-split_in-requires c =
-    (c.is_pool.ensures.yes (c.if-not-is_pool.false), omega arith, lengths-right _ _ _ (sym c.slots_of.ensures ∙ ap sized_of c.in-Slots.is))
+pub returns-in_err-room : goal.returns-in_err-room
+returns-in_err-room c =
+    let p = err_from_is_err_and c.from_residual-in_err-room.result c.from_residual-in_err-room.ensures.1 in
+    let w = was-none c.slots_of.result _ c.in_err-room.ensures.value in
+    rw (p.1, p.2, w.refusal) (second-refused _ _ _ _ _ c.in_ok-pool.ensures.1.rule (rw w.none at c.slots_of.ensures))
+
+pub returns-in_err-tested : goal.returns-in_err-tested
+returns-in_err-tested c =
+    let p = err_from_is_err_and c.from_residual-in_err-tested.result c.from_residual-in_err-tested.ensures.1 in
+    let w = was-some c.slots_of.result _ c.in_ok-room.ensures.value in
+    let e = c.in_err-tested.ensures in
+    rw (p.1, p.2, e.0) (prefix_long _ _ _ _ _ _ c.in_ok-pool.ensures.1.rule (rw w at c.slots_of.ensures) e.1)
+
+pub split_root-requires : goal.split_root-requires
+split_root-requires c =
+    let d = (goal.at.split_root-requires c).After-descend-d in
+    (landed_root (known d) c.in-Root.is, sized d)
+
+pub split_node-requires : goal.split_node-requires
+split_node-requires c =
+    let d = (goal.at.split_node-requires c).After-descend-d in
+    (landed (known d) Stop.Same c.in-Same.is, sized d)
+
+pub split_label-requires : goal.split_label-requires
+split_label-requires c =
+    let d = (goal.at.split_label-requires c).After-descend-d in
+    (landed (known d) (Stop.Inside _) c.in-Inside.is, sized d)
+
+pub returns-in-Root : goal.returns-in-Root
+unfolding landed_root
+returns-in-Root c = c.split_root.ensures (landed_root (known (goal.at.returns-in-Root c).After-descend-d) c.in-Root.is)
+
+pub returns-in-Same : goal.returns-in-Same
+unfolding landed
+returns-in-Same c =
+    c.split_node.ensures (landed (known (goal.at.returns-in-Same c).After-descend-d) Stop.Same c.in-Same.is)
+
+pub returns-in-Inside : goal.returns-in-Inside
+unfolding landed
+returns-in-Inside c =
+    c.split_label.ensures (landed (known (goal.at.returns-in-Inside c).After-descend-d) (Stop.Inside _) c.in-Inside.is)
+
+pub returns-in-Gap : goal.returns-in-Gap
+returns-in-Gap c =
+    let d = (goal.at.returns-in-Gap c).After-descend-d in
+    absent_told (known d) (sized d) c.in-Gap.is

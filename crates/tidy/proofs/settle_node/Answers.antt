@@ -7,10 +7,8 @@ use Rattle.tidy.proofs.settle_node.Goals as goal
 pub returns-then-has_at-gt0 : goal.returns-then-has_at-gt0
 returns-then-has_at-gt0 c = λ s b l w kids r. numbered_stays (omega (arith, c.has_at.ensures.0)) r
 
-pub kids_of-requires : goal.kids_of-requires
-kids_of-requires c =
-    let p = c.requires in
-    record { fact = (p.words, p.ripe.span); hops = sparse_hops p.ripe.kids_are }
+pub kids_of-requires-clause-hops : goal.kids_of-requires-clause-hops
+kids_of-requires-clause-hops c = sparse_hops c.requires.ripe.kids_are
 
 pub take_in-requires : goal.take_in-requires
 take_in-requires c =

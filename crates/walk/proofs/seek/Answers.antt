@@ -9,21 +9,21 @@ pub loop-i-init : goal.loop-i-init
 loop-i-init c =
     ahead-start _ _ _ c.requires.0 (bytes_of c.args.labels.now c.type_inv.labels) c.nodes_in-n.ensures.0 c.requires.1
 
-pub lay-len-requires : goal.lay-len-requires
-lay-len-requires c = slot-room c.loop-i.invariant c.loop-i-test.true
+pub lay-length-requires : goal.lay-length-requires
+lay-length-requires c = slot-room c.loop-i.invariant c.loop-i-test.true
 
 pub returns-then-is_due : goal.returns-then-is_due
 returns-then-is_due c =
-    sought_key c.loop-i.invariant c.loop-i-test.true c.lay-len.ensures (rw c.if-gives_key.true at c.gives_key.ensures) (sym c.if-is_due.true ∙ c.is_due.ensures) _ c.number_at.ensures
+    sought_key c.loop-i.invariant c.loop-i-test.true c.lay-length.ensures (rw c.if-gives_key.true at c.gives_key.ensures) (sym c.if-is_due.true ∙ c.is_due.ensures) _ c.number_at-number.ensures
 
 pub loop-i-preserved : goal.loop-i-preserved
 loop-i-preserved c =
     elim c.if-gives_key.branch [
       | then-gives_key+else-is_due w ↦
-          ahead-passed c.loop-i.invariant c.loop-i-test.true c.lay-len.ensures
+          ahead-passed c.loop-i.invariant c.loop-i-test.true c.lay-length.ensures
           (rw w.if-gives_key.true at c.gives_key.ensures) (sym w.if-is_due.false ∙ w.is_due.ensures)
       | else-gives_key w ↦
-          ahead-plain c.loop-i.invariant c.loop-i-test.true c.lay-len.ensures (rw w.if-gives_key.false at c.gives_key.ensures)
+          ahead-plain c.loop-i.invariant c.loop-i-test.true c.lay-length.ensures (rw w.if-gives_key.false at c.gives_key.ensures)
     ]
 
 pub returns : goal.returns

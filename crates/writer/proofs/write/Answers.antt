@@ -1,26 +1,23 @@
 -- `writer::write` meets its contract: each answer by the tests that led to it. Assumes nothing.
 use native.Mathlib.Omega.{arith}
-use Rattle.pool.specs.Rule.{PoolRule}
+use Rattle.std.proofs.lemmas.Result.{err_from_is_err_and}
 use Rattle.pool.proofs.Answers.{bytes_of}
 use Rattle.writer.proofs.Answers.{Known, known, write_refused, tree-room, numbers-counted, write_short_tree, write_short_numbers, write_done}
 use Rattle.writer.proofs.write.Goals as goal
-use Rattle.writer.proofs.write.Goals.{After-nodes_in-n, Else-not-is_pool}
+use Rattle.writer.proofs.write.Goals.{After-nodes_in-n}
 
--- past the first test the lent slices are a pool
-rule_at : (c : Else-not-is_pool)
-    → let a = c.args in
-    PoolRule a.words.now a.labels.now
-rule_at c = c.is_pool.ensures.yes (c.if-not-is_pool.false)
-
--- and its tree is known once the nodes are counted
+-- past the test the lent slices are a pool, and its tree is known once the nodes are counted
 known_at : (c : After-nodes_in-n)
     → let a = c.args in
     Known a.words.now a.labels.now c.nodes_in-n.result
 known_at c =
-    known (c.is_pool.ensures.yes c.if-not-is_pool.false) (bytes_of c.args.labels.now c.type_inv.labels) c.nodes_in-n.ensures.0
+    known c.in_ok-tested.ensures (bytes_of c.args.labels.now c.type_inv.labels) c.nodes_in-n.ensures.0
 
-pub returns-then-not-is_pool : goal.returns-then-not-is_pool
-returns-then-not-is_pool c = write_refused _ _ _ _ (c.is_pool.ensures.no (c.if-not-is_pool.true))
+pub returns-in_err-tested : goal.returns-in_err-tested
+returns-in_err-tested c =
+    let p = err_from_is_err_and c.from_residual.result c.from_residual.ensures.1 in
+    let e = c.in_err-tested.ensures in
+    rw (p.1, p.2, e.0) (write_refused _ _ _ _ e.1)
 
 pub returns-then-tree-bytes : goal.returns-then-tree-bytes
 returns-then-tree-bytes c =
@@ -38,7 +35,7 @@ write_tree-requires c =
 
 pub write_numbers-requires : goal.write_numbers-requires
 write_numbers-requires c =
-    (omega (arith, rule_at (goal.at.write_numbers-requires c).Else-not-is_pool), omega (arith, numbers-counted (known_at (goal.at.write_numbers-requires c).After-nodes_in-n)))
+    (omega (arith, c.in_ok-tested.ensures), omega (arith, numbers-counted (known_at (goal.at.write_numbers-requires c).After-nodes_in-n)))
 
 pub returns : goal.returns
 returns c =

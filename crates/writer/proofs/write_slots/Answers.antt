@@ -22,11 +22,17 @@ bounds-levels-start c =
     let h = at (flat_at (goal.at.bounds-levels-start c).In-loop-i) c.loop-i-test.true in
     omega (arith, c.start_at-start.ensures.0, (slot h).start, head-deep h)
 
+pub overflow_add-levels : goal.overflow_add-levels
+overflow_add-levels c =
+    let f = flat_at (goal.at.overflow_add-levels c).In-loop-i in
+    let taken = c.loop-i-test.true in
+    omega (arith, head_level (at f taken), level_is f taken c.start_at-start.ensures.0 c.from-level.ensures)
+
 pub overflow_cast-levels : goal.overflow_cast-levels
 overflow_cast-levels c =
     let f = flat_at (goal.at.overflow_cast-levels c).In-loop-i in
     let taken = c.loop-i-test.true in
-    omega (arith, head_level (at f taken), level_is f taken c.start_at-start.ensures.0 c.wide-level.ensures.0)
+    omega (arith, head_level (at f taken), level_is f taken c.start_at-start.ensures.0 c.from-level.ensures)
 
 pub bounds-levels-end : goal.bounds-levels-end
 bounds-levels-end c =
@@ -38,14 +44,14 @@ write_record-place-requires c =
     let pre = c.requires in
     let f = flat_at (goal.at.write_record-place-requires c).In-loop-i in
     let taken = c.loop-i-test.true in
-    flat_room f taken pre.within pre.fits (level_is f taken c.start_at-start.ensures.0 c.wide-level.ensures.0)
+    flat_room f taken pre.within pre.fits (level_is f taken c.start_at-start.ensures.0 c.from-level.ensures)
 
 pub loop-i-preserved : goal.loop-i-preserved
 loop-i-preserved c =
     let begun = c.start_at-start.ensures.0 in
     let v = c.loop-i in (
       simp length-set v.invariant.0,
-      λ f r. flat_step (v.invariant.1 f r) c.loop-i-test.true v.invariant.0 begun (omega (arith, c.len_at.ensures.0)) c.wide-level.ensures.0
+      λ f r. flat_step (v.invariant.1 f r) c.loop-i-test.true v.invariant.0 begun (omega (arith, c.len_at.ensures.0)) c.from-level.ensures
           (rw c.follows-sibling.ensures at c.write_record-place.ensures),
     )
 

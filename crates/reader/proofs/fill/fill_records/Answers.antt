@@ -7,7 +7,7 @@ use Rattle.tree.specs.Tree.{nodes_t}
 use Rattle.reader.specs.Fill.{Room}
 use Rattle.reader.proofs.Fills.{First, left-start, left-done, left-next, first, len_is, level_is, path-is, whole, room_stays, slot_due, record_due}
 use Rattle.reader.proofs.fill.fill_records.Goals as goal
-use Rattle.reader.proofs.fill.fill_records.Goals.{After-wide, In-loop-c}
+use Rattle.reader.proofs.fill.fill_records.Goals.{After-from, In-loop-c}
 
 -- the record at the cursor, and the room for it
 first_at : (c : In-loop-c)
@@ -22,10 +22,10 @@ room_at c =
     room_stays c.loop-c.invariant.1 c.loop-c.invariant.2 c.requires.room
 
 -- where the label ends
-end_at : (c : After-wide) → c.path_of-start.result + c.wide.result ≤ 4096
+end_at : (c : After-from) → c.from-start.result + c.from.result ≤ 4096
 end_at c =
     let f = first (c.loop-c.invariant.3 c.requires.tree c.requires.known) c.loop-c-test.true in
-    omega (arith, path-is f c.level_at-level.ensures.0 c.path_of-start.ensures.0, c.wide.ensures.0, len_is f, f.own.deep)
+    omega (arith, path-is f c.level_at-level.ensures.0 c.from-start.ensures, c.from.ensures, len_is f, f.own.deep)
 
 pub loop-c-init : goal.loop-c-init
 loop-c-init c = (refl, refl, refl, λ t k. left-start _ _ _ _ _ t refl refl k)
@@ -41,8 +41,11 @@ bounds-starts-level c =
 pub bounds-tree-at : goal.bounds-tree-at
 bounds-tree-at c = omega (arith, whole (first_at (goal.at.bounds-tree-at c).In-loop-c))
 
+pub overflow_add-end : goal.overflow_add-end
+overflow_add-end c = omega (arith, end_at (goal.at.overflow_add-end c).After-from)
+
 pub overflow_cast-starts : goal.overflow_cast-starts
-overflow_cast-starts c = omega (arith, end_at (goal.at.overflow_cast-starts c).After-wide)
+overflow_cast-starts c = omega (arith, end_at (goal.at.overflow_cast-starts c).After-from)
 
 pub bounds-starts-level-in-loop-c : goal.bounds-starts-level-in-loop-c
 bounds-starts-level-in-loop-c c =
@@ -52,7 +55,7 @@ bounds-starts-level-in-loop-c c =
 pub fill_slot-requires : goal.fill_slot-requires
 fill_slot-requires c =
     let f = first_at (goal.at.fill_slot-requires c).In-loop-c in
-    slot_due f (path-is f c.level_at-level.ensures.0 c.path_of-start.ensures.0) (room_at (goal.at.fill_slot-requires c).In-loop-c)
+    slot_due f (path-is f c.level_at-level.ensures.0 c.from-start.ensures) (room_at (goal.at.fill_slot-requires c).In-loop-c)
 
 pub behind-c-requires : goal.behind-c-requires
 behind-c-requires c =
@@ -65,8 +68,8 @@ loop-c-preserved c =
       simp length-set v.invariant.0,
       put.words ∙ v.invariant.1,
       put.labels ∙ v.invariant.2,
-      λ t k. left-next (first (v.invariant.3 t k) c.loop-c-test.true) c.level_at-level.ensures.0 c.path_of-start.ensures.0
-          (omega (arith, c.wide.ensures.0)) put c.behind-c.ensures,
+      λ t k. left-next (first (v.invariant.3 t k) c.loop-c-test.true) c.level_at-level.ensures.0 c.from-start.ensures
+          (omega (arith, c.from.ensures)) put c.behind-c.ensures,
     )
 
 pub returns : goal.returns

@@ -7,4 +7,5 @@ use Rattle.splice.proofs.alter.join_label.Goals as goal
 
 pub returns : goal.returns
 returns c =
-    joined _ _ _ _ _ _ _ _ _ _ _ c.put_head.ensures c.move_bytes_down.ensures c.stored_at-stored.ensures (search rules) (omega arith) (omega arith) (omega arith) refl
+    let copied = c.copy_within.ensures in
+    joined _ _ _ _ _ _ _ _ _ _ _ c.put_head.ensures (search rules) c.stored_at-stored.ensures (search rules) (omega arith) (omega arith) (omega arith) refl

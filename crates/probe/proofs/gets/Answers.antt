@@ -1,0 +1,19 @@
+-- `probe::gets` meets its contract: each lookup is that of `get`. Assumes nothing.
+use Rattle.std.proofs.lemmas.Result.{err_from_is_err_and}
+use Rattle.search.proofs.Answers.{get_refused, get_long}
+use Rattle.probe.proofs.gets.Goals as goal
+
+pub returns-in_err-pool : goal.returns-in_err-pool
+returns-in_err-pool c =
+    let p = err_from_is_err_and c.from_residual.result c.from_residual.ensures.1 in
+    let e = c.in_err-pool.ensures in
+    rw (p.1, p.2, e.0) (get_refused _ _ _ e.1)
+
+pub returns-in_err-tested : goal.returns-in_err-tested
+returns-in_err-tested c =
+    let p = err_from_is_err_and c.from_residual-in_err-tested.result c.from_residual-in_err-tested.ensures.1 in
+    let e = c.in_err-tested.ensures in
+    rw (p.1, p.2, e.0) (get_long _ _ _ c.in_ok-pool.ensures.1.rule e.1)
+
+pub returns : goal.returns
+returns c = rw c.in_ok-pool.ensures.0 at (rw c.in_ok-tested.ensures.0 at c.loop.invariant)
