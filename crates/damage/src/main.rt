@@ -51,6 +51,7 @@ fn tell<W: Write>(to: &mut W, byte: u8, answer: Answer<()>) -> io::Result<()> {
     print::text(to, b",")
 }
 
+// One byte changed, where there is one.
 fn set_byte(image: &mut [u8], at: usize, byte: u8) {
     if let Some(place) = image.get_mut(at) {
         *place = byte;

@@ -26,7 +26,7 @@ pub fn flag_byte(number: bool, child: bool, sibling: bool) -> u8
     both_bits(number, 3) + both_bits(child, 12) + both_bits(sibling, 48)
 }
 
-// 1 where a flag byte says that there is a number, else 0. Counterpart: `Flags::VALUE_INITIALIZED`.
+// 1 where a flag byte says that there is a number, else 0: numbers, as the reader's rules add and compare them. Counterpart: `Flags::VALUE_INITIALIZED`.
 pub fn has_number(f: u8) -> usize
     ensures { (result ≡ has_number f) × (result < 2) }
 {

@@ -73,7 +73,7 @@ fn four_same(k: &[u8], l: &[u8], i: usize) -> bool
     four(k, i) == four(l, i)
 }
 
-// The eight bytes at i as one number, the first the lowest: one load.
+// The eight bytes at i as one number, the first the lowest: one load. Each width has its own, as no trait has `from_le_bytes`.
 fn eight(b: &[u8], i: usize) -> u64
     requires { i + 8 ≤ length b.now }
     ensures { result ≡ eight_at b.now i }

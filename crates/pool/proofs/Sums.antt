@@ -8,7 +8,7 @@ use native.Mathlib.Omega.{arith}
 use lib.ListN.{length, set, length-set}
 use lib.Seq.{get_or-set_same}
 use Rattle.tree.specs.Map.{Num}
-use Rattle.tree.specs.Tree.{Forest, nil, node, Tree, nodes_f, nodes_t, keys_f, keys_t, keys_w, empty}
+use Rattle.tree.specs.Tree.{Forest, nil, node, Tree, nodes_f, nodes_t, keys_f, keys_t, empty}
 use Rattle.slots.specs.Layout.{nodes_word, nodes_of, start_of, len_of, has_of, number_of, span_of, num_of, num_at}
 use Rattle.slots.specs.Records.{rec_at, node_rec, root_rec}
 use Rattle.slots.specs.Put.{WordsPut}
@@ -74,7 +74,7 @@ module _ (ws bs : List ℕ) (slots : ℕ) (l : Lengths ws bs slots) where
         nodes = p.low nodes_word (omega arith) ∙ get_or-set_same ws nodes_word 1 0 (omega (arith, l.least, l.words));
         start = p.start;
         len = p.len;
-        has = p.has ∙ unfold keys_w in refl;
+        has = p.has;
         span = p.span;
       }
 

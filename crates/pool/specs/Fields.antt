@@ -18,7 +18,7 @@ has_sum ws (suc n) = has_sum ws n + has_of ws n
 
 -- the root of the empty tree: no path, no label, no number, alone in its span
 abbrev pub fresh_root : Head
-fresh_root = record { start = 0; len = 0; stored = None; span = 1 }
+fresh_root = record { start = 0; len = 0; has = 0; number = record { 0 = 0 }; span = 1 }
 
 -- the words with that slot in use and no other
 unfoldable pub emptied : List ℕ → List ℕ

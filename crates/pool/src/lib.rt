@@ -13,7 +13,7 @@ ghost use Rattle.pool.specs.Fields.{sized_of, has_sum, emptied};
 
 use slots::put::{Head, put_words};
 use slots::{HEAD_WORDS, LABEL_ROOM, SLOT_WORDS};
-use tree::{Answer, Counted, KEY_MAX, LABEL_MAX, Refusal, SLOTS_MAX, Slot};
+use tree::{Answer, Counted, KEY_MAX, LABEL_MAX, Refusal, RuleNo, SLOTS_MAX, Slot};
 
 // How many slots two slices have, if their lengths are those of a pool.
 pub fn slots_of(labels: &[u8], words: &[u32]) -> Option<usize>
@@ -164,7 +164,8 @@ pub fn write_empty(words: &mut [u32])
     let root = Head {
         start: 0,
         len: 0,
-        stored: None,
+        has: 0,
+        number: RuleNo(0),
         span: 1,
     };
     put_words(words, Slot(0), root);

@@ -18,9 +18,7 @@ use Rattle.tree.specs.Reader.{has_number}
 use Rattle.tree.proofs.ReaderParts.{headed, byte_at}
 use Rattle.slots.specs.Layout.{num_of}
 use Rattle.slots.specs.Records.{Rec, rec_at, run}
-use Rattle.slots.specs.Put.{SlotPut, rec_of}
-use Rattle.slots.specs.declared.put.Head.{Head}
-use Rattle.slots.proofs.Slots.{num_read}
+use Rattle.slots.specs.Put.{SlotPut}
 use Rattle.slots.specs.Bare.{Bare, stored_of, bare_at, bare_of, bares_from, bares_t}
 use Rattle.slots.proofs.Runs.{run_join, run_length, run_ext}
 use Rattle.slots.proofs.Slots.{bare_of_lem}
@@ -38,18 +36,29 @@ keys_num zero v e = refl
 keys_num (suc zero) v e = refl
 keys_num (suc (suc h)) v e = absurd (omega arith)
 
+-- The number that the code found, as the two words of a slot say it
+pub due_words : (o : Maybe RuleNo) (h v : ℕ) → stored_of o ≡ num_of h v → num_of h (unwrap_or o (record { 0 = 0 })).0 ≡ stored_of o
+unfolding num_of
+due_words (Some u) zero v e = absurd (cc)
+due_words (Some u) (suc h) v e = refl
+due_words None zero v e = refl
+due_words None (suc h) v e = absurd (cc)
+
+pub due_keys : (o : Maybe RuleNo) (h v : ℕ) → stored_of o ≡ num_of h v → h ≤ 1 → h ≡ keys_w (stored_of o)
+due_keys o h v e l = sym (ap (λ (x : Num). keys_w x) e ∙ keys_num h v l)
+
 -- A slot that was written from what the code read of the record
-pub slot_read : (s ns ws bs vs cs : List ℕ) (path : ℕ) (from : Cursor) (h : Head) (l : List ℕ) → h.start ≡ path → h.len ≡ get_or s (from.at + 1) 0 → h.span ≡ 1
-    → stored_of h.stored ≡ num_of (has_number (get_or s from.at 0)) (get_or ns from.next 0) → l ≡ take h.len (drop (from.at + 4) s)
-    → SlotPut ws bs vs cs from.slot.0 (rec_of h l)
+pub slot_read : (s ns ws bs vs cs : List ℕ) (path : ℕ) (from : Cursor) (len has : ℕ) (num due : Num) (l : List ℕ) → len ≡ get_or s (from.at + 1) 0
+    → has ≡ keys_w due → num ≡ due → due ≡ num_of (has_number (get_or s from.at 0)) (get_or ns from.next 0) → l ≡ take len (drop (from.at + 4) s)
+    → SlotPut ws bs vs cs from.slot.0 (record { start = path; len = len; has = has; num = num; span = 1; label = l })
     → SlotPut ws bs vs cs from.slot.0 (rec_read s ns path from)
-slot_read s ns ws bs vs cs path from h l o p q e b put =
-    let n = num_read (stored_of h.stored) ∙ e in
-    let k = ap (λ (x : Num). keys_w x) e ∙ keys_num (has_number (get_or s from.at 0)) (get_or ns from.next 0) (omega arith) in
+slot_read s ns ws bs vs cs path from len has num due l p q d e b h =
+    let n = d ∙ e in
+    let k = q ∙ ap (λ (x : Num). keys_w x) e ∙ keys_num (has_number (get_or s from.at 0)) (get_or ns from.next 0) (omega arith) in
     let t = b ∙ ap (λ (x : ℕ). take x (drop (from.at + 4) s)) p in
-    let same : rec_of h l ≡ rec_read s ns path from =
-    λ i. record { start = o i; len = p i; has = k i; num = n i; span = q i; label = t i } in
-    subst (λ (r : Rec). SlotPut ws bs vs cs from.slot.0 r) same put
+    let same : record { start = path; len = len; has = has; num = num; span = 1; label = l } ≡ rec_read s ns path from =
+    λ i. record { start = path; len = p i; has = k i; num = n i; span = 1; label = t i } in
+    subst (λ (r : Rec). SlotPut ws bs vs cs from.slot.0 r) same h
 
 pub room_stays : {ws bs vs cs : List ℕ} {e : ℕ} → length vs ≡ length ws → length cs ≡ length bs → Room ws bs e → Room vs cs e
 room_stays p q r = record { words = omega (arith, r.words); labels = omega (arith, r.labels); few = r.few }

@@ -1,14 +1,11 @@
 -- What the fill finds in an image that has passed the check, and what it leaves in the pool. s is the image, ns the numbers;
 -- ws and bs are the pool's words and labels before, vs and cs after.
-use Rattle.std.specs.Prelude.{◌≡◌, List, ℕ, ◌+◌, ◌≤◌, ◌<◌, length, get_or, take, drop, Some, None}
-use Rattle.std.specs.Prelude.{Option as Maybe}
-use Rattle.std.proofs.Math.Option.{none, some}
-use Rattle.tree.specs.Map.{Num}
+use Rattle.std.specs.Prelude.{◌≡◌, List, ℕ, ◌+◌, ◌≤◌, ◌<◌, length, get_or, take, drop}
+use Rattle.std.proofs.Math.Option.{some}
 use Rattle.tree.specs.Tree.{Tree, nodes_t, WellFormed}
 use Rattle.tree.specs.Image.{image_t, numbers_t}
 use Rattle.tree.specs.Reader.{has_number, ok, read_t}
 use Rattle.tree.specs.Cleared.{cleared}
-use Rattle.tree.specs.declared.RuleNo.{RuleNo}
 use Rattle.slots.specs.Layout.{words_for, bytes_for, num_of}
 use Rattle.pool.specs.Pool.{slots_of}
 use Rattle.slots.specs.Records.{Rec}

@@ -23,7 +23,7 @@ struct Cursor {
     next: usize,
 }
 
-// The number of a record, if it has one.
+// The number of a record, if it has one: `has` is the flag as it is counted.
 fn number_due(numbers: &[u64], next: usize, has: usize) -> Option<RuleNo>
     requires { next + has ≤ length numbers.now }
     ensures { stored_of result ≡ num_of has (get_or numbers.now next 0) }
@@ -52,11 +52,13 @@ fn fill_slot(
 {
     let at = from.at;
     let len = usize::from(tree[at + 1]);
-    let stored = number_due(numbers, from.next, has_number(tree[at]));
+    let has = has_number(tree[at]);
+    let number = number_due(numbers, from.next, has);
     let head = Head {
         start: path as u32,
         len: len as u32,
-        stored,
+        has: has as u32,
+        number: number.unwrap_or(RuleNo(0)),
         span: 1,
     };
     let first = at + 4;

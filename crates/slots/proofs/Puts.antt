@@ -6,13 +6,13 @@ use native.Mathlib.Omega.{arith}
 use lib.ListN.{length, get_or, set, take, drop, length-set, length-take, length-drop}
 use lib.Seq.{get_or-set_same, get_or-set_other, get_or-take, get_or-drop, ext_get_or}
 use borrow.Rule.Slice.PartMut.{put_mid}
+use Rattle.tree.specs.Map.{Num}
 use Rattle.label.proofs.Moves.{by_lt}
-use Rattle.tree.specs.Tree.{keys_w}
 use Rattle.slots.specs.declared.put.Head.{Head}
 use Rattle.slots.specs.Layout.{label_room, used_words, bytes_for, WordsIn, RoomIn, field_at, start_field, len_field, has_field, low_field, span_field, high_field, start_of, len_of, has_of, number_of, span_of, label_of, num_of}
 use Rattle.slots.specs.Records.{Rec, rec_at}
 use Rattle.slots.specs.Put.{words_put, WordsPut, LabelPut, SlotPut, rec_of}
-use Rattle.slots.specs.Bare.{stored_of, number_word, fields_put, head_put, bare_of, Filled}
+use Rattle.slots.specs.Bare.{fields_put, bare_of, HeadOf, Filled}
 use Rattle.slots.proofs.Slots.{number_same, fields_length, fields_low, fields_high, fields_start, fields_len, fields_has, fields_number, bare_of_lem, label-put_eq, put-length, put_low, put-high, put-label-is, num_read}
 
 -- The words of a slot are then there, and no other word has changed.
@@ -21,8 +21,8 @@ unfolding words_put
 words-put ws vs i h room e =
     let start = h.start in
     let len = h.len in
-    let has = keys_w (stored_of h.stored) in
-    let number = number_word (stored_of h.stored) in
+    let has = h.has in
+    let number = h.number.0 in
     let us = fields_put ws i start len has number in
     let size = fields_length ws i start len has number in
     let kept : (j : ℕ) → (j ≡ field_at i span_field → ⊥) → get_or (set us (field_at i span_field) h.span) j 0 ≡ get_or us j 0 =
@@ -42,7 +42,7 @@ words-put ws vs i h room e =
     })
 
 -- They are set one after another.
-pub words-set : (ws us vs : List ℕ) (i : ℕ) (h : Head) → us ≡ head_put ws i h.start h.len (stored_of h.stored)
+pub words-set : (ws us vs : List ℕ) (i : ℕ) (h : Head) → us ≡ fields_put ws i h.start h.len h.has h.number.0
     → vs ≡ set us (field_at i span_field) h.span → vs ≡ words_put ws i h
 unfolding words_put
 words-set ws us vs i h a b = rw (b, a)
@@ -104,20 +104,21 @@ module _ (ws bs vs cs : List ℕ) (i : ℕ) (h : Head) (l : List ℕ) (short : l
   slot-put = record { words = p.size; labels = q.size; slot = slot_is; others = other_is; head = λ j m. p.low j (omega arith) }
 
 -- The same, told as a splice
-pub slot-filled : (ws bs vs cs : List ℕ) (at : ℕ) (h : Head) (l : List ℕ) → h.len ≡ length l
-    → SlotPut ws bs vs cs at (rec_of h l) → Filled ws bs vs cs at (bare_of h.start l (stored_of h.stored)) × (span_of vs at ≡ h.span)
+pub slot-filled : (ws bs vs cs : List ℕ) (at : ℕ) (h : Head) (l : List ℕ) (start span : ℕ) (w : Num) → HeadOf h start (length l) w span
+    → SlotPut ws bs vs cs at (rec_of h l) → Filled ws bs vs cs at (bare_of start l w) × (span_of vs at ≡ span)
 unfolding rec_at
-slot-filled ws bs vs cs at h l e p = (
-  record {
-    len_w = p.words;
-    len_b = p.labels;
-    head = p.head;
-    slot = bare_of_lem vs cs at (rec_of h l) p.slot ∙ rw (e, num_read) refl;
-    others = λ i ne r. bare_of_lem vs cs i (rec_at ws bs i) (p.others i ne) ∙ sym (bare_of_lem ws bs i (rec_at ws bs i) refl);
-    spans = λ i ne. ap (λ (x : Rec). x.span) (p.others i ne);
-  },
-  ap (λ (x : Rec). x.span) p.slot,
-)
+slot-filled ws bs vs cs at h l start span w o p =
+    let num : num_of h.has h.number.0 ≡ w = rw (o.has-is, o.number_is) (num_read w) in (
+      record {
+        len_w = p.words;
+        len_b = p.labels;
+        head = p.head;
+        slot = bare_of_lem vs cs at (rec_of h l) p.slot ∙ rw (o.start_is, o.len_is, num, o.has-is);
+        others = λ i ne r. bare_of_lem vs cs i (rec_at ws bs i) (p.others i ne) ∙ sym (bare_of_lem ws bs i (rec_at ws bs i) refl);
+        spans = λ i ne. ap (λ (x : Rec). x.span) (p.others i ne);
+      },
+      ap (λ (x : Rec). x.span) p.slot ∙ o.span-is,
+    )
 
 -- The count of nodes is in no slot.
 pub nodes-put : (ws bs : List ℕ) (n k : ℕ) → rec_at (set ws 0 n) bs k ≡ rec_at ws bs k

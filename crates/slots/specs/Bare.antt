@@ -9,6 +9,7 @@ use Rattle.tree.specs.Map.{Num}
 use Rattle.tree.specs.Tree.{Forest, nil, node, Tree, keys_w}
 use Rattle.slots.specs.Layout.{SameHead, RoomIn, word_range, field_at, start_field, low_field, high_field, start_of, len_of, has_of, span_of, label_of, num_at}
 use Rattle.slots.specs.Records.{run}
+use Rattle.slots.specs.declared.put.Head.{Head}
 
 -- A record without its span
 pub record Bare : Type 0 where
@@ -57,6 +58,14 @@ fields_put ws i start len has number = number_put (sets ws (field_at i start_fie
 
 abbrev pub head_put : (ws : List ℕ) (i start len : ℕ) → Num → List ℕ
 head_put ws i start len w = fields_put ws i start len (keys_w w) (number_word w)
+
+-- A slot's words with its span
+pub record HeadOf (h : Head) (start len : ℕ) (w : Num) (span : ℕ) : Type 0 where
+  pub start_is : h.start ≡ start
+  pub len_is : h.len ≡ len
+  pub has-is : h.has ≡ keys_w w
+  pub number_is : h.number.0 ≡ number_word w
+  pub span-is : h.span ≡ span
 
 -- What a slot with the label l and the number w says
 abbrev pub bare_of : (start : ℕ) (l : List ℕ) → Num → Bare

@@ -64,7 +64,7 @@ pub fn len_at(words: &[u32], at: Slot) -> usize
     words[SLOT_WORDS * i + LEN] as usize
 }
 
-// 1 if the slot has a number, else 0.
+// 1 if the slot has a number, else 0: a number and no bool, since the words are lent and this one may hold anything.
 pub fn has_at(words: &[u32], at: Slot) -> usize
     requires { WordsIn words.now at.0 }
     ensures { (result ≡ has_of words.now at.0) × (result < 4294967296) }

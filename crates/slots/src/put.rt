@@ -1,7 +1,7 @@
 // Writing slots: all fields of one slot, or all but its span, and nothing else.
 ghost use Rattle.std.specs.Prelude.{◌≡◌, List, ℕ, ◌+◌, ◌≤◌, ◌<◌, length};
 ghost use Rattle.slots.specs.Layout.{label_room, WordsIn, RoomIn, start_of, len_of, span_of, num_at};
-ghost use Rattle.slots.specs.Bare.{stored_of, head_put, bare_of, bare_at, front_of, back_of, Filled};
+ghost use Rattle.slots.specs.Bare.{stored_of, head_put, HeadOf, bare_of, bare_at, front_of, back_of, Filled};
 ghost use Rattle.slots.specs.Put.{words_put, LabelPut, SlotPut, rec_of};
 
 use crate::{
@@ -10,14 +10,30 @@ use crate::{
 };
 use tree::{RuleNo, Slot};
 
-// What a slot says in words: bytes of the path above it, label length, its number, if it has one, and the nodes of its
-// subtree, itself included.
+// The words of a slot: bytes of the path above it, label length, 1 if it has a number and else 0, that number, and the
+// nodes of its subtree, itself included. `put_words` and `put_slot` write any such words, so `has` and `number` stay apart.
 #[derive(Clone, Copy)]
 pub struct Head {
     pub start: u32,
     pub len: u32,
-    pub stored: Option<RuleNo>,
+    pub has: u32,
+    pub number: RuleNo,
     pub span: u32,
+}
+
+impl Head {
+    // Of a node under a path of `start` bytes, with a label of `len` bytes and its number: a missing one is told by two zeros.
+    pub fn new(start: u32, len: u32, stored: Option<RuleNo>, span: u32) -> Head
+        ensures { HeadOf result start len (stored_of stored) span }
+    {
+        Head {
+            start,
+            len,
+            has: u32::from(stored.is_some()),
+            number: stored.unwrap_or(RuleNo(0)),
+            span,
+        }
+    }
 }
 
 // Writes the words of one slot.
@@ -25,13 +41,10 @@ pub fn put_words(words: &mut [u32], at: Slot, head: Head)
     requires { WordsIn words.old at.0 }
     ensures { words.new ≡ words_put words.old at.0 head }
 {
-    put_head(
-        words,
-        at,
-        head.start as usize,
-        head.len as usize,
-        head.stored,
-    );
+    set_start(words, at, head.start);
+    set_len(words, at, head.len);
+    set_has(words, at, head.has);
+    set_number(words, at, head.number);
     set_span(words, at, head.span);
 }
 
@@ -92,12 +105,7 @@ pub fn put_linked(
         let i = at.0 in
         Filled ws bs vs cs i (bare_of start bytes.now (stored_of stored)) × (span_of vs i ≡ span) }
 {
-    let head = Head {
-        start: start as u32,
-        len: bytes.len() as u32,
-        stored,
-        span: span as u32,
-    };
+    let head = Head::new(start as u32, bytes.len() as u32, stored, span as u32);
     put_slot(labels, words, at, head, bytes);
 }
 

@@ -11,7 +11,7 @@ use Rattle.tree.specs.Tree.{keys_w}
 use Rattle.label.proofs.Moves.{by_lt, by_eq}
 use Rattle.slots.specs.Layout.{nodes_word, WordsIn, start_of, len_of, has_of, number_of, span_of, label_of, num_of, num_at}
 use Rattle.slots.specs.Records.{rec_at, root_rec}
-use Rattle.slots.specs.Bare.{stored_of, number_word}
+use Rattle.slots.specs.Bare.{HeadOf, number_word}
 use Rattle.slots.specs.Put.{rec_of, words_put, WordsPut, SlotPut}
 use Rattle.pool.specs.Rule.{Within}
 use Rattle.slots.specs.declared.put.Head.{Head}
@@ -27,16 +27,13 @@ pub label_long : (ws bs l : List ℕ) (at : ℕ) → Within ws bs (at + 1) → l
 label_long ws bs l at w h e = ap length e ∙ label-length ws bs at h (omega (arith, w.labels))
 
 -- The record that the code writes
-pub carried-is : (ws l : List ℕ) (from start : ℕ) (h : Head) → has_of ws from ≤ 1 → h.start ≡ start → h.len ≡ length l → stored_of h.stored ≡ num_at ws from → h.span ≡ span_of ws from
+pub carried-is : (ws l : List ℕ) (from start : ℕ) (h : Head) → h.start ≡ start → h.len ≡ length l → h.has ≡ has_of ws from → h.number.0 ≡ number_of ws from → h.span ≡ span_of ws from
     → rec_of h l ≡ carried ws from start l
-carried-is ws l from start h one s n w p =
-    let has : keys_w (stored_of h.stored) ≡ has_of ws from = ap keys_w w ∙ sym (num-has (has_of ws from) (number_of ws from) one) in
-    let num : num_of (keys_w (stored_of h.stored)) (number_word (stored_of h.stored)) ≡ num_at ws from = num_read (stored_of h.stored) ∙ w in
-    λ i. record { start = s i; len = n i; has = has i; num = num i; span = p i; label = l }
+carried-is ws l from start h s n a v p = rw (s, n, a, v, p)
 
-pub carried-put : (ws vs cs us ds l : List ℕ) (from to start : ℕ) (h : Head) → has_of ws from ≤ 1 → h.start ≡ start → h.len ≡ length l → stored_of h.stored ≡ num_at ws from
+pub carried-put : (ws vs cs us ds l : List ℕ) (from to start : ℕ) (h : Head) → h.start ≡ start → h.len ≡ length l → h.has ≡ has_of ws from → h.number.0 ≡ number_of ws from
     → h.span ≡ span_of ws from → SlotPut vs cs us ds to (rec_of h l) → SlotPut vs cs us ds to (carried ws from start l)
-carried-put ws vs cs us ds l from to start h one s n w p q = rw (carried-is ws l from start h one s n w p) at q
+carried-put ws vs cs us ds l from to start h s n a v p q = rw (s, n, a, v, p) at q
 
 -- A slot of a part can be carried over by itself.
 pub lift_one : {ws bs : List ℕ} {from count base : ℕ} (i : ℕ) → i < count → Liftable ws bs from count base → Within ws bs (from + i + 1)
@@ -70,27 +67,27 @@ pub lift_done : {ws bs vs cs us ds : List ℕ} {from to i count base : ℕ} → 
 lift_done {ws} {bs} {vs} {cs} {us} {ds} {from} {to} {i} {count} {base} e l = rw e at l
 
 -- The root's record as the code writes it
-root_rec_lem : (ws us bs : List ℕ) (num : Num) (nodes : ℕ) (h : Head) → h.start ≡ 0 → h.len ≡ 0 → stored_of h.stored ≡ num → h.span ≡ nodes → WordsPut ws us 0 h
+root_rec_lem : (ws us bs : List ℕ) (num : Num) (nodes : ℕ) (h : Head) → HeadOf h 0 0 num nodes → WordsPut ws us 0 h
     → rec_at us bs 0 ≡ record { start = 0; len = 0; has = keys_w num; num = num; span = nodes; label = [] }
 unfolding rec_at
-root_rec_lem ws us bs num nodes h s n v p w =
-    let w₀ : start_of us 0 ≡ 0 = w.start ∙ s in
-    let w₁ : len_of us 0 ≡ 0 = w.len ∙ n in
-    let w₂ : has_of us 0 ≡ keys_w num = w.has ∙ ap keys_w v in
-    let w₃ : number_of us 0 ≡ number_word num = w.number ∙ ap number_word v in
-    let w₄ : span_of us 0 ≡ nodes = w.span ∙ p in
+root_rec_lem ws us bs num nodes h o w =
+    let w₀ : start_of us 0 ≡ 0 = w.start ∙ o.start_is in
+    let w₁ : len_of us 0 ≡ 0 = w.len ∙ o.len_is in
+    let w₂ : has_of us 0 ≡ keys_w num = w.has ∙ o.has-is in
+    let w₃ : number_of us 0 ≡ number_word num = w.number ∙ o.number_is in
+    let w₄ : span_of us 0 ≡ nodes = w.span ∙ o.span-is in
     rw (w₀, w₁, w₂, w₃, w₄, num_read num)
 
 -- The root written, and the slots in use counted
-pub rooted : (ws us vs : List ℕ) (num : Num) (nodes : ℕ) (h : Head) → WordsIn ws 0 → h.start ≡ 0 → h.len ≡ 0 → stored_of h.stored ≡ num → h.span ≡ nodes
+pub rooted : (ws us vs : List ℕ) (num : Num) (nodes : ℕ) (h : Head) → WordsIn ws 0 → HeadOf h 0 0 num nodes
     → us ≡ words_put ws 0 h → vs ≡ set us nodes_word nodes → Rooted ws vs num nodes
-rooted ws us vs num nodes h l s n v p put e =
+rooted ws us vs num nodes h l o put e =
     let w = words-put ws us 0 h l put in
     let size : length us ≡ length ws = w.size in
     record {
       len = ap length e ∙ length-set us 0 nodes ∙ size;
       count = ap (λ (x : List ℕ). get_or x 0 0) e ∙ get_or-set_same us 0 nodes 0 (omega arith);
-      root = λ bs. ap (λ (x : List ℕ). rec_at x bs 0) e ∙ nodes-put us bs nodes 0 ∙ root_rec_lem ws us bs num nodes h s n v p w;
+      root = λ bs. ap (λ (x : List ℕ). rec_at x bs 0) e ∙ nodes-put us bs nodes 0 ∙ root_rec_lem ws us bs num nodes h o w;
       others = λ bs i k. ap (λ (x : List ℕ). rec_at x bs i) e ∙ nodes-put us bs nodes i ∙ rec_same ws bs us bs i (λ j a b. w.high j (omega arith)) refl;
     }
 
@@ -145,7 +142,7 @@ detached-below ws bs vs cs us ds es fs gs at m base nodes first count d f k b n 
 
 -- Less may be taken off than there is.
 pub lift_less : {ws bs : List ℕ} {from count base less : ℕ} → less ≤ base → Liftable ws bs from count base → Liftable ws bs from count less
-lift_less h l = record { within = l.within; deep = λ i a b. omega (arith, l.deep i a b); short = l.short; has = l.has }
+lift_less h l = record { within = l.within; deep = λ i a b. omega (arith, l.deep i a b); short = l.short }
 
 -- the code's own names for the numbers
 pub lift_as : {ws bs : List ℕ} {from count base from' count' base' : ℕ} → from ≡ from' → count ≡ count' → base ≡ base' → Liftable ws bs from count base → Liftable ws bs from' count' base'

@@ -40,27 +40,21 @@ stands_lowered ws bs us ds base (node b l w kids rest) s d c j e h k =
           (λ i p. ap (rec_at us ds) (omega arith) ∙ k (suc (nodes_f kids) + i) (omega arith) ∙ ap (λ (x : ℕ). lowered base (rec_at ws bs x)) (omega arith)),
     )
 
-keys_one : (w : Num) → keys_w w ≤ 1
-unfolding keys_w
-keys_one none = omega arith
-keys_one (some v) = omega arith
-
--- No label of a forest is too long for its slot, and a slot has one number at most.
-stands_fits : (ws bs : List ℕ) (s : ℕ) (f : Forest) (c : ℕ) → Wf s f → Stands ws bs s f c → (i : ℕ) → c ≤ i → i < c + nodes_f f → (len_of ws i ≤ 255) × (has_of ws i ≤ 1)
+-- No label of a forest is too long for its slot.
+stands_short : (ws bs : List ℕ) (s : ℕ) (f : Forest) (c : ℕ) → Wf s f → Stands ws bs s f c → (i : ℕ) → c ≤ i → i < c + nodes_f f → len_of ws i ≤ 255
 unfolding room
-stands_fits ws bs s nil c w h i a b =
+stands_short ws bs s nil c w h i a b =
     let z : nodes_f nil ≡ 0 = unfold nodes_f in refl in
     absurd (omega arith)
-stands_fits ws bs s (node x l v kids rest) c w h i a b =
+stands_short ws bs s (node x l v kids rest) c w h i a b =
     let z = nodes-node x l v kids rest in
-    let r = slot-is_rec ws bs c (node_rec s x l v (nodes_f kids)) h.0 in
     by_eq i c
-    (λ e. omega (arith, r.len, ap (len_of ws) e, w.short, r.has, ap (has_of ws) e, keys_one v))
+    (λ e. omega (arith, (slot-is_rec ws bs c (node_rec s x l v (nodes_f kids)) h.0).len, ap (len_of ws) e, w.short))
     (λ ne.
     let a' : c + 1 ≤ i = by_lt c i (λ k. omega arith) (λ k. absurd (ne (omega arith))) in
     by_lt i (c + suc (nodes_f kids))
-    (λ k. stands_fits ws bs (s + suc (length l)) kids (c + 1) w.wkids h.1 i a' (omega arith))
-    (λ k. stands_fits ws bs s rest (c + suc (nodes_f kids)) w.wrest h.2 i k (omega arith)))
+    (λ k. stands_short ws bs (s + suc (length l)) kids (c + 1) w.wkids h.1 i a' (omega arith))
+    (λ k. stands_short ws bs s rest (c + suc (nodes_f kids)) w.wrest h.2 i k (omega arith)))
 
 -- A slot with its number and its children, whose keys start behind s bytes
 pub record Spot (ws bs : List ℕ) (at s : ℕ) (w : Num) (kids : Forest) : Type 0 where
@@ -73,6 +67,11 @@ pub record Spot (ws bs : List ℕ) (at s : ℕ) (w : Num) (kids : Forest) : Type
   pub below : Stands ws bs s kids (at + 1)
   pub wf : Wf s kids
   pub within : at + suc (nodes_f kids) ≤ nodes_of ws
+
+keys_one : (w : Num) → keys_w w ≤ 1
+unfolding keys_w
+keys_one none = omega arith
+keys_one (some v) = omega arith
 
 module _ {ws bs : List ℕ} {t : Tree} (h : Holds ws bs t) where
   pub root_spot : Spot ws bs 0 0 t.num t.kids
@@ -122,8 +121,7 @@ module _ {ws bs : List ℕ} {t : Tree} (h : Holds ws bs t) where
         kids = record {
           within = record { words = omega (arith, h.nodes, h.room, l.words); labels = omega (arith, h.nodes, h.room, l.labels) };
           deep = λ i a b. omega (arith, p.base, stands_deep ws bs s kids (at + 1) p.below i a (omega arith));
-          short = λ i a b. (stands_fits ws bs s kids (at + 1) p.wf p.below i a (omega arith)).0;
-          has = λ i a b. (stands_fits ws bs s kids (at + 1) p.wf p.below i a (omega arith)).1;
+          short = λ i a b. stands_short ws bs s kids (at + 1) p.wf p.below i a (omega arith);
         };
       }
 

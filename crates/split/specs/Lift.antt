@@ -25,7 +25,6 @@ pub record Liftable (ws bs : List ℕ) (from count base : ℕ) : Type 0 where
   pub within : Within ws bs (from + count)
   pub deep : (i : ℕ) → from ≤ i → i < from + count → base ≤ start_of ws i
   pub short : (i : ℕ) → from ≤ i → i < from + count → len_of ws i ≤ 255
-  pub has : (i : ℕ) → from ≤ i → i < from + count → has_of ws i ≤ 1
 
 -- They stand from slot `to` on, lowered.
 pub record Lifted (ws bs vs cs us ds : List ℕ) (from to count base : ℕ) : Type 0 where

@@ -43,13 +43,14 @@ struct Cut {
 fn carried(words: &[u32], from: Slot, start: usize, label: &[u8]) -> Head
     requires { let ws = words.now in
         let i = from.0 in
-        WordsIn ws i × (has_of ws i ≤ 1) × (start < 4294967296) × (length label.now ≤ 255) }
+        WordsIn ws i × (start < 4294967296) × (length label.now ≤ 255) }
     ensures { rec_of result label.now ≡ carried words.now from.0 start label.now }
 {
     Head {
         start: start as u32,
         len: label.len() as u32,
-        stored: stored_at(words, from),
+        has: slots::has_at(words, from) as u32,
+        number: slots::number_at(words, from),
         span: slots::span_at(words, from) as u32,
     }
 }
@@ -95,12 +96,7 @@ fn put_root(words: &mut [u32], stored: Option<RuleNo>, nodes: usize)
     requires { WordsIn words.old 0 × (nodes < 4294967296) }
     ensures { Rooted words.old words.new (stored_of stored) nodes }
 {
-    let head = Head {
-        start: 0,
-        len: 0,
-        stored,
-        span: nodes as u32,
-    };
+    let head = Head::new(0, 0, stored, nodes as u32);
     put_words(words, Slot(0), head);
     slots::set_nodes(words, nodes as u32);
 }
@@ -142,8 +138,7 @@ fn top_slot(
 )
     requires { let ws = words.now in
         let i = at.0 in
-        Within ws labels.now (i + 1) × (m ≤ len_of ws i) × (len_of ws i ≤ 255) × (has_of ws i ≤ 1)
-        × Within words2.old labels2.old 2 }
+        Within ws labels.now (i + 1) × (m ≤ len_of ws i) × (len_of ws i ≤ 255) × Within words2.old labels2.old 2 }
     ensures { let ws = words.now in
         let bs = labels.now in
         let ws2 = words2.old in

@@ -8,7 +8,7 @@ use tree::{
 };
 
 fn number<W: Write>(to: &mut W, n: u32) -> io::Result<()> {
-    print::number(to, n as u64)
+    print::number(to, u64::from(n))
 }
 
 // A number and nothing more.
@@ -76,7 +76,7 @@ where
     }
 }
 
-// What a call answers that says nothing more where it is done.
+// What a call answers that says nothing more where it is done. As of all that is printed, the replay shows it.
 pub fn done<W: Write>(to: &mut W, answer: Answer<()>) -> io::Result<()> {
     answered(to, answer, |_, _| Ok(()))
 }

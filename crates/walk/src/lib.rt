@@ -9,10 +9,10 @@ ghost use Rattle.tree.specs.Key.{key_max};
 ghost use Rattle.tree.specs.Map.{past};
 ghost use Rattle.slots.specs.Layout.{WordsIn, has_of};
 ghost use Rattle.pool.specs.Lent.{lent};
-ghost use Rattle.pool.specs.Rule.{PoolRule};
 ghost use Rattle.walk.specs.Due.{lent_key, due, GivesKey, LayRoom, Laid, Sought};
 ghost use Rattle.walk.specs.Walks.{Keeps, Lends, LendsLast, stepped, Begins, HandedIn, StepAllows};
 
+use pool::Pool;
 use tree::{Answer, KEY_MAX, Refusal, RuleNo, Slot, Stepped};
 
 // A key in a room of its own. Of one over 4,096 bytes only the length is kept.
@@ -72,18 +72,13 @@ fn gives_key(words: &[u32], at: Slot) -> bool
 
 // Looks for the next key, slot by slot: the first that is due. Counterpart: `Iter::next`, called until a node with a value
 // comes; the Rust finds its way back by a stack, and this loop by the path that it keeps.
-fn seek(
-    labels: &[u8],
-    words: &[u32],
-    prefix: &[u8],
-    last: Option<&[u8]>,
-    path: &mut [u8],
-) -> Option<Stepped>
-    requires { PoolRule words.now labels.now × (length path.old ≡ key_max) }
-    ensures { let ws = words.now in
-        let bs = labels.now in
-        Sought ws bs prefix.now (lent_key last.entry) result path.new }
+fn seek(pool: &Pool<'_>, prefix: &[u8], last: Option<&[u8]>, path: &mut [u8]) -> Option<Stepped>
+    requires { length path.old ≡ key_max }
+    ensures { let was = pool.now in
+        Sought was.words was.labels prefix.now (lent_key last.entry) result path.new }
 {
+    let labels = pool.labels;
+    let words = pool.words;
     let n = slots::nodes_in(words);
     for i in 0..n {
         let length = lay(labels, words, Slot(i), path);
@@ -159,10 +154,10 @@ impl Walk {
             let r = stepped w result path.new in
             StepAllows w r (lent labels.now words.now) out.old out.new }
     {
-        pool::tested(labels, words)?;
+        let pool = Pool::new(labels, words)?;
         let prefix = self.prefix.lend()?;
         let last = self.lend_last()?;
-        let found = seek(labels, words, prefix, last, path).ok_or(Refusal::NoKey)?;
+        let found = seek(&pool, prefix, last, path).ok_or(Refusal::NoKey)?;
         let n = found.length;
         if out.len() < n {
             return Err(Refusal::KeyShort(n));

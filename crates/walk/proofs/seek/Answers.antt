@@ -1,20 +1,20 @@
 -- `walk::seek` meets its contract: its loop keeps what the slots ahead of it give. Assumes nothing.
 use mathlib.Core.Path.{sym, ◌∙◌}
-use Rattle.pool.proofs.Answers.{bytes_of}
 use Rattle.walk.proofs.Sought.{ahead-start, slot-room, sought_none, ahead-plain, ahead-passed, sought_key}
 use Rattle.walk.proofs.seek.Goals as goal
 use Rattle.walk.proofs.seek.Goals.{then-gives_key+else-is_due, else-gives_key}
 
 pub loop-i-init : goal.loop-i-init
 loop-i-init c =
-    ahead-start _ _ _ c.requires.0 (bytes_of c.args.labels.now c.type_inv.labels) c.nodes_in-n.ensures.0 c.requires.1
+    ahead-start _ _ _ c.pool.invariant.rule c.pool.invariant.bytes c.nodes_in-n.ensures.0 c.requires
 
 pub lay-length-requires : goal.lay-length-requires
 lay-length-requires c = slot-room c.loop-i.invariant c.loop-i-test.true
 
 pub returns-then-is_due : goal.returns-then-is_due
 returns-then-is_due c =
-    sought_key c.loop-i.invariant c.loop-i-test.true c.lay-length.ensures (rw c.if-gives_key.true at c.gives_key.ensures) (sym c.if-is_due.true ∙ c.is_due.ensures) _ c.number_at-number.ensures
+    rw (← c.pool.view_is)
+    (sought_key c.loop-i.invariant c.loop-i-test.true c.lay-length.ensures (rw c.if-gives_key.true at c.gives_key.ensures) (sym c.if-is_due.true ∙ c.is_due.ensures) _ c.number_at-number.ensures)
 
 pub loop-i-preserved : goal.loop-i-preserved
 loop-i-preserved c =
@@ -27,4 +27,4 @@ loop-i-preserved c =
     ]
 
 pub returns : goal.returns
-returns c = sought_none c.loop-i.invariant c.loop-i-test.false
+returns c = rw (← c.pool.view_is) (sought_none c.loop-i.invariant c.loop-i-test.false)

@@ -11,30 +11,30 @@ use Rattle.walk.proofs.Walk.find.Goals.{In_ok-last, After-seek}
 asked : (c : In_ok-last)
     → let a = c.args in
     Asked a.words.now a.labels.now a.self.now
-asked c = record { rule = c.in_ok-tested.ensures; prefix = c.in_ok-prefix.ensures.1; last = c.in_ok-last.ensures.1 }
+asked c = record { rule = c.in_ok-pool.ensures.1.rule; prefix = c.in_ok-prefix.ensures.1; last = c.in_ok-last.ensures.1 }
 
 sought : (c : After-seek)
     → let a = c.args in
     Sought a.words.now a.labels.now (prefix_of a.self.now) (last_of a.self.now) c.seek.result c.seek.new.path
-sought c = rw (c.in_ok-prefix.ensures.0, c.in_ok-last.ensures.0) at c.seek.ensures
+sought c = rw (c.in_ok-pool.ensures.0, c.in_ok-prefix.ensures.0, c.in_ok-last.ensures.0) at c.seek.ensures
 
-pub returns-in_err-tested : goal.returns-in_err-tested
-returns-in_err-tested c =
+pub returns-in_err-pool : goal.returns-in_err-pool
+returns-in_err-pool c =
     let p = err_from_is_err_and c.from_residual.result c.from_residual.ensures.1 in
-    let e = c.in_err-tested.ensures in
+    let e = c.in_err-pool.ensures in
     rw (p.1, p.2, e.0) (step_refused _ _ e.1)
 
 pub returns-in_err-prefix : goal.returns-in_err-prefix
 returns-in_err-prefix c =
     let p = err_from_is_err_and c.from_residual-in_err-prefix.result c.from_residual-in_err-prefix.ensures.1 in
     let e = c.in_err-prefix.ensures in
-    rw (p.1, p.2, e.0) (step_prefix _ _ c.in_ok-tested.ensures e.1)
+    rw (p.1, p.2, e.0) (step_prefix _ _ c.in_ok-pool.ensures.1.rule e.1)
 
 pub returns-in_err-last : goal.returns-in_err-last
 returns-in_err-last c =
     let p = err_from_is_err_and c.from_residual-in_err-last.result c.from_residual-in_err-last.ensures.1 in
     let e = c.in_err-last.ensures in
-    rw (p.1, p.2, e.0) (step_last _ _ c.in_ok-tested.ensures c.in_ok-prefix.ensures.1 e.1)
+    rw (p.1, p.2, e.0) (step_last _ _ c.in_ok-pool.ensures.1.rule c.in_ok-prefix.ensures.1 e.1)
 
 pub returns-in_err-found : goal.returns-in_err-found
 returns-in_err-found c =
