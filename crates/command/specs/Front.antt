@@ -4,7 +4,7 @@ use Rattle.line.specs.Spelling.{index_of}
 use Rattle.command.specs.declared.Verb.{Verb}
 use Rattle.command.specs.declared.Named.{Named}
 use Rattle.command.specs.declared.Command.{Command}
-use Rattle.command.specs.declared.Words.{Words}
+use Rattle.command.specs.declared.Order.{Order}
 use Rattle.command.specs.declared.NotCommand.{NotCommand}
 
 -- What a command is called
@@ -65,13 +65,13 @@ CommentOf b s = b ≡ eqb (get_or s 0 0) 35
 
 -- What a line of n bytes, of which s holds as many as fit, asks for: what its front names, if it fits and its words are good for
 -- that.
-abbrev pub AskedOf : Result (Command × Words) NotCommand → List ℕ → ℕ → Type 0
+abbrev pub AskedOf : Result (Command × Order) NotCommand → List ℕ → ℕ → Type 0
 AskedOf (Ok (c, w)) s n = (n ≤ length s) × CommandOf (Some c) (take n s)
 AskedOf (Err NotCommand.TooLong) s n = length s < n
 AskedOf (Err NotCommand.Front) s n = (n ≤ length s) × CommandOf None (take n s)
 AskedOf (Err NotCommand.Words) s n = (n ≤ length s) × ((c : Command) × CommandOf (Some c) (take n s))
 
 -- An empty line and a comment ask for nothing.
-abbrev pub HeardOf : Option (Result (Command × Words) NotCommand) → List ℕ → ℕ → Type 0
+abbrev pub HeardOf : Option (Result (Command × Order) NotCommand) → List ℕ → ℕ → Type 0
 HeardOf None s n = (n ≡ 0) ⊎ (get_or s 0 0 ≡ 35)
 HeardOf (Some r) s n = (0 < n) × (get_or s 0 0 ≡ 35 → ⊥) × AskedOf r s n

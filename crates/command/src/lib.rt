@@ -40,15 +40,32 @@ pub struct Command {
     pub end: usize,
 }
 
-// What the words behind the pool's name stand for. A key, a prefix or an image is the first `key` bytes of the room, and the last
-// key given of a walk, if one was, so many bytes behind them. `number` is the number to store; `count` is how many numbers an
-// image has, or the length of a step's output.
+// A walk that is handed in: its prefix, the last key given, if one was, and the output's length. The prefix is the first bytes of
+// the room, and the last key the bytes behind them.
 #[derive(Clone, Copy)]
-pub struct Words {
-    pub key: usize,
+pub struct Handed {
+    pub prefix: usize,
     pub last: Option<usize>,
-    pub number: RuleNo,
-    pub count: usize,
+    pub out: usize,
+}
+
+// A command with what its words stand for. A key, a prefix or an image is so many bytes at the front of the room; an insert has the
+// number to store besides, and a read how many numbers its image has.
+#[derive(Clone, Copy)]
+pub enum Order {
+    Make,
+    Clear,
+    Counts,
+    Write,
+    Get(usize),
+    Remove(usize),
+    Longest(usize),
+    Shared(usize),
+    Walk(usize),
+    Insert(usize, RuleNo),
+    Split(usize),
+    Read(usize, usize),
+    Step(Handed),
 }
 
 // Why a line is no command: it is longer than its room, its front names no verb or no pool, or its words are none that its verb
@@ -124,77 +141,52 @@ pub fn behind<T>(run: &[T], n: usize) -> &[T]
     &run[n.min(run.len())..]
 }
 
-// A key and nothing more.
-fn keyed(key: usize) -> Words {
-    Words {
-        key,
-        last: None,
-        number: RuleNo(0),
-        count: 0,
-    }
-}
-
 // No word at all.
-fn no_words(verb: Verb) -> Option<Words> {
+fn no_words(verb: Verb) -> Option<Order> {
     match verb {
-        Verb::Make | Verb::Clear | Verb::Counts | Verb::Write => Some(keyed(0)),
+        Verb::Make => Some(Order::Make),
+        Verb::Clear => Some(Order::Clear),
+        Verb::Counts => Some(Order::Counts),
+        Verb::Write => Some(Order::Write),
         _ => None,
     }
 }
 
 // One word, which was read as a key.
-fn one_word(verb: Verb, key: usize) -> Option<Words> {
+fn one_word(verb: Verb, key: usize) -> Option<Order> {
     match verb {
-        Verb::Get | Verb::Remove | Verb::Longest | Verb::Shared | Verb::Walk => Some(keyed(key)),
+        Verb::Get => Some(Order::Get(key)),
+        Verb::Remove => Some(Order::Remove(key)),
+        Verb::Longest => Some(Order::Longest(key)),
+        Verb::Shared => Some(Order::Shared(key)),
+        Verb::Walk => Some(Order::Walk(key)),
         _ => None,
     }
 }
 
-// A number to store.
-fn with_number(key: usize, word: &[u8]) -> Option<Words> {
-    let number = RuleNo(line::number(word)?);
-    Some(Words {
-        number,
-        ..keyed(key)
-    })
-}
-
-// The numbers of an image.
-fn with_numbers(key: usize, word: &[u8], numbers: &mut [u64]) -> Option<Words> {
-    let count = line::numbers(word, numbers)?;
-    Some(Words {
-        count,
-        ..keyed(key)
-    })
-}
-
 // A split names the other pool.
-fn with_pool(pool: Named, key: usize, word: &[u8]) -> Option<Words> {
+fn with_pool(pool: Named, key: usize, word: &[u8]) -> Option<Order> {
     if pool_named(word)? == pool {
         return None;
     }
-    Some(keyed(key))
+    Some(Order::Split(key))
 }
 
 // The last key of a walk, spelt by a word, `.` if none was given; and the output's length, at most 4,096.
-fn with_step(key: usize, rest: &[u8], room: &mut [u8]) -> Option<Words> {
+fn with_step(prefix: usize, rest: &[u8], room: &mut [u8]) -> Option<Order> {
     let n = line::word_end(rest);
     if n == rest.len() {
         return None;
     }
-    let count = line::number(&rest[n + 1..])? as usize;
-    if count > KEY_MAX {
+    let out = line::number(&rest[n + 1..])? as usize;
+    if out > KEY_MAX {
         return None;
     }
     let last = match &rest[..n] {
         b"." => None,
         word => Some(line::key(word, room)?),
     };
-    Some(Words {
-        last,
-        count,
-        ..keyed(key)
-    })
+    Some(Order::Step(Handed { prefix, last, out }))
 }
 
 // A word that was read as a key, and more behind it.
@@ -204,18 +196,18 @@ fn more_words(
     rest: &[u8],
     room: &mut [u8],
     numbers: &mut [u64],
-) -> Option<Words> {
+) -> Option<Order> {
     match command.verb {
-        Verb::Insert => with_number(key, rest),
-        Verb::Read => with_numbers(key, rest, numbers),
+        Verb::Insert => Some(Order::Insert(key, RuleNo(line::number(rest)?))),
+        Verb::Read => Some(Order::Read(key, line::numbers(rest, numbers)?)),
         Verb::Split => with_pool(command.pool, key, rest),
         Verb::Step => with_step(key, rest, room),
         _ => None,
     }
 }
 
-// The words behind the pool's name. The first, if there is one, is hex.
-fn words_of(command: Command, line: &[u8], bytes: &mut [u8], numbers: &mut [u64]) -> Option<Words> {
+// The order that a command's words make. The first word behind the pool's name, if there is one, is hex.
+fn order_of(command: Command, line: &[u8], bytes: &mut [u8], numbers: &mut [u64]) -> Option<Order> {
     let verb = command.verb;
     let end = command.end;
     if end >= line.len() {
@@ -246,7 +238,7 @@ fn asked(
     n: usize,
     bytes: &mut [u8],
     numbers: &mut [u64],
-) -> Result<(Command, Words), NotCommand>
+) -> Result<(Command, Order), NotCommand>
     ensures { AskedOf result line.now n }
 {
     if n > line.len() {
@@ -254,8 +246,8 @@ fn asked(
     }
     let whole = &line[..n];
     let command = command_in(whole).ok_or(NotCommand::Front)?;
-    let words = words_of(command, whole, bytes, numbers).ok_or(NotCommand::Words)?;
-    Ok((command, words))
+    let order = order_of(command, whole, bytes, numbers).ok_or(NotCommand::Words)?;
+    Ok((command, order))
 }
 
 // What a line of n bytes asks for; the room holds as many of them as fit. An empty line and a comment ask for nothing. A comment
@@ -265,7 +257,7 @@ pub fn hear(
     n: usize,
     bytes: &mut [u8],
     numbers: &mut [u64],
-) -> Option<Result<(Command, Words), NotCommand>>
+) -> Option<Result<(Command, Order), NotCommand>>
     ensures { HeardOf result line.now n }
 {
     if n == 0 || is_comment(line) {

@@ -5,7 +5,7 @@
 ghost use Rattle.std.specs.Prelude.{◌≡◌, ◌<◌};
 ghost use Rattle.tree.specs.Told.{refusal};
 ghost use Rattle.tree.specs.Reader.{judge, flag_rules, has_number, has_child, has_sibling};
-ghost use Rattle.flags.specs.Flags.{pair, flag_byte, passes};
+ghost use Rattle.flags.specs.Flags.{pair, flag_byte, passes, Bit};
 
 use tree::Level;
 
@@ -26,25 +26,25 @@ pub fn flag_byte(number: bool, child: bool, sibling: bool) -> u8
     both_bits(number, 3) + both_bits(child, 12) + both_bits(sibling, 48)
 }
 
-// 1 where a flag byte says that there is a number, else 0: numbers, as the reader's rules add and compare them. Counterpart: `Flags::VALUE_INITIALIZED`.
+// 1 where a flag byte says that there is a number, else 0: a number, as it is taken from the numbers left. Counterpart: `Flags::VALUE_INITIALIZED`.
 pub fn has_number(f: u8) -> usize
     ensures { (result ≡ has_number f) × (result < 2) }
 {
     usize::from(f / 2 % 2)
 }
 
-// The same of children. Counterpart: `Flags::CHILD_INITIALIZED`.
-pub fn has_child(f: u8) -> usize
-    ensures { (result ≡ has_child f) × (result < 2) }
+// Whether it says that there are children. Counterpart: `Flags::CHILD_INITIALIZED`.
+pub fn has_child(f: u8) -> bool
+    ensures { Bit result (has_child f) }
 {
-    usize::from(f / 8 % 2)
+    f / 8 % 2 == 1
 }
 
-// The same of a younger sibling. Counterpart: `Flags::SIBLING_INITIALIZED`.
-pub fn has_sibling(f: u8) -> usize
-    ensures { (result ≡ has_sibling f) × (result < 2) }
+// Whether it says that there is a younger sibling. Counterpart: `Flags::SIBLING_INITIALIZED`.
+pub fn has_sibling(f: u8) -> bool
+    ensures { Bit result (has_sibling f) }
 {
-    usize::from(f / 32 % 2)
+    f / 32 % 2 == 1
 }
 
 // Whether a flag byte that was read can stand at a level. A pair that is 2 says initialised without allocated.
@@ -66,7 +66,7 @@ pub fn flags_sound(f: u8, level: Level) -> bool
     if level.0 != 0 {
         return true;
     }
-    if has_sibling(f) != 0 {
+    if has_sibling(f) {
         return false;
     }
     true

@@ -10,10 +10,11 @@ ghost use Rattle.slots.specs.Put.{SlotPut};
 ghost use Rattle.pool.specs.Post.{Meets};
 ghost use Rattle.reader.specs.Fill.{SlotDue, rec_read, RecordDue, Behind, RecordsDue, Recorded, FillDue};
 
+use super::level_at;
 use flags::has_number;
 use slots::put::{Head, put_slot};
 use splice::settle;
-use tree::{Level, RuleNo, Slot};
+use tree::{RuleNo, Slot};
 
 // Where the fill stands: the offset of the record due, its slot, and the place of the number due.
 #[derive(Clone, Copy)]
@@ -78,15 +79,6 @@ fn behind(tree: &[u8], from: Cursor) -> Cursor
         slot: Slot(from.slot.0 + 1),
         next: from.next + has_number(tree[at]),
     }
-}
-
-// The level that a record says.
-fn level_at(tree: &[u8], at: usize) -> Level
-    requires { at + 4 ≤ length tree.now }
-    ensures { let s = tree.now in
-        (result.0 ≡ 256 * get_or s (at + 2) 0 + get_or s (at + 3) 0) × (result.0 < 65536) }
-{
-    Level(256 * usize::from(tree[at + 2]) + usize::from(tree[at + 3]))
 }
 
 // Writes every record into its slot, but for the spans, and gives their count. A node's children start where its label

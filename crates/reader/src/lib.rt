@@ -2,7 +2,7 @@
 // Counterpart: `KeyAndNode::deserialize`, which builds as it parses and takes many images that are refused here.
 #![tactic(auto)]
 
-ghost use Rattle.std.specs.Prelude.{◌≡◌, ◌+◌, ◌≤◌, ◌<◌, length};
+ghost use Rattle.std.specs.Prelude.{◌≡◌, ◌+◌, ◌*◌, ◌≤◌, ◌<◌, length, get_or};
 ghost use Rattle.tree.specs.Reader.{judge};
 ghost use Rattle.pool.specs.Lent.{lent};
 ghost use Rattle.reader.specs.Post.{ReadAllows};
@@ -22,6 +22,15 @@ struct Mark {
     nodes: usize,
 }
 
+// The level that a record says.
+fn level_at(tree: &[u8], at: usize) -> Level
+    requires { at + 4 ≤ length tree.now }
+    ensures { let s = tree.now in
+        (result.0 ≡ 256 * get_or s (at + 2) 0 + get_or s (at + 3) 0) × (result.0 < 65536) }
+{
+    Level(256 * usize::from(tree[at + 2]) + usize::from(tree[at + 3]))
+}
+
 // The tests of a record's first four bytes, up to the label's presence, below the root. A length is not believed before the
 // bytes that are left have been counted. Counterpart: the two "unexpected EOS" tests; the Rust makes no other here.
 fn test_head(tree: &[u8], level: Level, at: usize) -> Answer<()>
@@ -35,7 +44,7 @@ fn test_head(tree: &[u8], level: Level, at: usize) -> Answer<()>
     if !flags_sound(tree[at], level) {
         return Err(Refusal::FlagByte(at));
     }
-    if 256 * usize::from(tree[at + 2]) + usize::from(tree[at + 3]) != level.0 {
+    if level_at(tree, at).0 != level.0 {
         return Err(Refusal::WrongLevel(at));
     }
     let len = usize::from(tree[at + 1]);
@@ -62,7 +71,7 @@ fn test_body(tree: &[u8], level: Level, least: usize, path: usize, from: Mark) -
         return Err(Refusal::TooLong);
     }
     let has = has_number(tree[at]);
-    if has + has_child(tree[at]) < 1 {
+    if has == 0 && !has_child(tree[at]) {
         return Err(Refusal::IdleNode(at));
     }
     if from.left < has {
@@ -96,7 +105,7 @@ fn check_node(tree: &[u8], level: Level, least: usize, path: usize, from: Mark) 
         left: from.left - has_number(tree[at]),
         nodes: from.nodes + 1,
     };
-    if has_child(tree[at]) == 0 {
+    if !has_child(tree[at]) {
         return Ok(past);
     }
     check_kids(tree, Level(level.0 + 1), path + len, past)
@@ -114,7 +123,7 @@ fn check_kids(tree: &[u8], level: Level, path: usize, from: Mark) -> Answer<Mark
     loop {
         let at = m.at;
         let next = check_node(tree, level, least, path, m)?;
-        if has_sibling(tree[at]) == 0 {
+        if !has_sibling(tree[at]) {
             return Ok(next);
         }
         least = usize::from(tree[at + 4]) + 1;
@@ -132,7 +141,7 @@ fn test_root(tree: &[u8], numbers: usize) -> Answer<()>
     if !flags_sound(tree[0], Level(0)) {
         return Err(Refusal::FlagByte(0));
     }
-    if 256 * usize::from(tree[2]) + usize::from(tree[3]) != 0 {
+    if level_at(tree, 0).0 != 0 {
         return Err(Refusal::WrongLevel(0));
     }
     if tree[1] > 0 {
@@ -154,7 +163,7 @@ fn check_root(tree: &[u8], numbers: usize) -> Answer<Mark>
         left: numbers - has_number(tree[0]),
         nodes: 1,
     };
-    if has_child(tree[0]) == 0 {
+    if !has_child(tree[0]) {
         return Ok(past);
     }
     check_kids(tree, Level(1), 0, past)

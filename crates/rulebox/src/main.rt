@@ -3,7 +3,7 @@
 // taken apart, then run.
 #![tactic(auto)]
 
-use command::{Command, Named, NotCommand, Verb, Words};
+use command::{Command, Handed, Named, NotCommand, Order};
 use std::io::{self, Write};
 use tree::KEY_MAX;
 use walk::Walk;
@@ -68,56 +68,54 @@ fn step<W: Write>(to: &mut W, pool: &Pool, walk: Walk, room: usize) -> io::Resul
 }
 
 // The walk that is handed in.
-fn handed_in(said: Words, bytes: &[u8]) -> Walk {
-    let fresh = Walk::new(command::first(bytes, said.key));
-    match said.last {
-        Some(n) => fresh.after(command::first(command::behind(bytes, said.key), n)),
+fn handed_in(given: Handed, bytes: &[u8]) -> Walk {
+    let fresh = Walk::new(command::first(bytes, given.prefix));
+    match given.last {
+        Some(n) => fresh.after(command::first(command::behind(bytes, given.prefix), n)),
         None => fresh,
     }
 }
 
-// A command that leaves its pool as it is.
-fn look<W: Write>(to: &mut W, pool: &Pool, verb: Verb, key: &[u8]) -> io::Result<()> {
-    let labels = &pool.labels;
-    let words = &pool.words;
-    match verb {
-        Verb::Counts => tell::counted(to, pool::counts(labels, words)),
-        Verb::Write => write(to, pool),
-        Verb::Get => tell::got(to, search::get(labels, words, key)),
-        Verb::Longest => tell::prefixed(to, search::longest(labels, words, key)),
-        Verb::Shared => tell::sharing(to, search::shared(labels, words, key)),
-        Verb::Walk => walk_all(to, pool, key),
-        _ => tell::no_command(to),
-    }
-}
-
-// A command on a pool. A split needs the other one too.
+// An order is carried out on a pool. A split needs the other one too.
 fn run<W: Write>(
     to: &mut W,
     pool: &mut Pool,
     other: &mut Pool,
-    verb: Verb,
-    said: Words,
+    order: Order,
     room: &Room,
 ) -> io::Result<()> {
     let labels = &mut pool.labels;
     let words = &mut pool.words;
-    let key = command::first(&room.bytes, said.key);
-    match verb {
-        Verb::Make => tell::done(to, pool::make(labels, words)),
-        Verb::Clear => tell::done(to, pool::clear(labels, words)),
-        Verb::Insert => tell::inserted(to, insert::insert(labels, words, key, said.number)),
-        Verb::Remove => tell::got(to, remove::remove(labels, words, key)),
-        Verb::Split => tell::done(
-            to,
-            split::split(labels, words, key, &mut other.labels, &mut other.words),
-        ),
-        Verb::Read => {
-            let listed = command::first(&room.numbers, said.count);
-            tell::done(to, reader::read(labels, words, key, listed))
+    let bytes = &room.bytes;
+    match order {
+        Order::Make => tell::done(to, pool::make(labels, words)),
+        Order::Clear => tell::done(to, pool::clear(labels, words)),
+        Order::Counts => tell::counted(to, pool::counts(labels, words)),
+        Order::Write => write(to, pool),
+        Order::Get(n) => tell::got(to, search::get(labels, words, command::first(bytes, n))),
+        Order::Remove(n) => tell::got(to, remove::remove(labels, words, command::first(bytes, n))),
+        Order::Longest(n) => {
+            tell::prefixed(to, search::longest(labels, words, command::first(bytes, n)))
         }
-        Verb::Step => step(to, pool, handed_in(said, &room.bytes), said.count),
-        _ => look(to, pool, verb, key),
+        Order::Shared(n) => {
+            tell::sharing(to, search::shared(labels, words, command::first(bytes, n)))
+        }
+        Order::Walk(n) => walk_all(to, pool, command::first(bytes, n)),
+        Order::Insert(n, number) => {
+            let key = command::first(bytes, n);
+            tell::inserted(to, insert::insert(labels, words, key, number))
+        }
+        Order::Split(n) => {
+            let prefix = command::first(bytes, n);
+            let answer = split::split(labels, words, prefix, &mut other.labels, &mut other.words);
+            tell::done(to, answer)
+        }
+        Order::Read(n, k) => {
+            let listed = command::first(&room.numbers, k);
+            let image = command::first(bytes, n);
+            tell::done(to, reader::read(labels, words, image, listed))
+        }
+        Order::Step(given) => step(to, pool, handed_in(given, bytes), given.out),
     }
 }
 
@@ -126,15 +124,15 @@ fn respond<W: Write>(
     to: &mut W,
     first: &mut Pool,
     second: &mut Pool,
-    heard: Option<Result<(Command, Words), NotCommand>>,
+    heard: Option<Result<(Command, Order), NotCommand>>,
     room: &Room,
 ) -> io::Result<()> {
     match heard {
         None => Ok(()),
         Some(Err(_)) => tell::no_command(to),
-        Some(Ok((order, said))) => match order.pool {
-            Named::First => run(to, first, second, order.verb, said, room),
-            Named::Second => run(to, second, first, order.verb, said, room),
+        Some(Ok((command, order))) => match command.pool {
+            Named::First => run(to, first, second, order, room),
+            Named::Second => run(to, second, first, order, room),
         },
     }
 }

@@ -1,5 +1,5 @@
 -- Slots carried over into another pool: what stands there then. Assumes nothing.
-use mathlib.Core.Path.{◌≡◌, refl, sym, ap, ◌∙◌}
+use mathlib.Core.Path.{◌≡◌, refl, ap, ◌∙◌}
 use mathlib.Core.List.{List, []}
 use mathlib.Core.Option.{none}
 use Prim.Native.Nat.{ℕ, suc, ◌+◌, ◌-◌, ◌≤◌, ◌<◌}
@@ -9,14 +9,13 @@ use lib.Seq.{get_or-set_same, take_all}
 use Rattle.tree.specs.Map.{Num}
 use Rattle.tree.specs.Tree.{keys_w}
 use Rattle.label.proofs.Moves.{by_lt, by_eq}
-use Rattle.slots.specs.Layout.{nodes_word, WordsIn, start_of, len_of, has_of, number_of, span_of, label_of, num_of, num_at}
+use Rattle.slots.specs.Layout.{nodes_word, WordsIn, start_of, len_of, has_of, number_of, span_of, label_of, num_at}
 use Rattle.slots.specs.Records.{rec_at, root_rec}
 use Rattle.slots.specs.Bare.{HeadOf, number_word}
 use Rattle.slots.specs.Put.{rec_of, words_put, WordsPut, SlotPut}
 use Rattle.pool.specs.Rule.{Within}
 use Rattle.slots.specs.declared.put.Head.{Head}
 use Rattle.slots.proofs.Cuts.{label-length}
-use Rattle.pool.proofs.Held.{num-has}
 use Rattle.slots.proofs.Slots.{num_read}
 use Rattle.slots.proofs.Puts.{words-put, rec_same, nodes-put}
 use Rattle.split.specs.Lift.{carried, lowered, topped, Liftable, Lifted, Rooted, Detached, DetachedBelow}

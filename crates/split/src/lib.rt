@@ -30,6 +30,14 @@ struct Part<'a> {
     base: usize,
 }
 
+// A node of the first pool that is carried over, with all below it.
+#[derive(Clone, Copy)]
+struct Node<'a> {
+    labels: &'a [u8],
+    words: &'a [u32],
+    at: Slot,
+}
+
 // A node of the first pool that is cut off: its slot and its parent's, and how many slots the second pool has.
 #[derive(Clone, Copy)]
 struct Cut {
@@ -102,22 +110,26 @@ fn put_root(words: &mut [u32], stored: Option<RuleNo>, nodes: usize)
 }
 
 // Carries the subtree of a slot over, with the slot as the root.
-fn detach_node(labels: &[u8], words: &[u32], at: Slot, labels2: &mut [u8], words2: &mut [u32])
-    requires { let ws = words.now in
-        Detachable ws labels.now at.0 × Within words2.old labels2.old (span_of ws at.0) }
-    ensures { let ws = words.now in
-        let bs = labels.now in
+fn detach_node(node: &Node<'_>, labels2: &mut [u8], words2: &mut [u32])
+    requires { let ws = node.now.words.now in
+        let i = node.now.at.0 in
+        Detachable ws node.now.labels.now i × Within words2.old labels2.old (span_of ws i) }
+    ensures { let ws = node.now.words.now in
+        let bs = node.now.labels.now in
+        let i = node.now.at.0 in
         let ws2 = words2.old in
         let bs2 = labels2.old in
         let vs2 = words2.new in
         let cs2 = labels2.new in
-        Detached ws bs ws2 bs2 vs2 cs2 at.0 (start_of ws at.0 + len_of ws at.0) }
+        Detached ws bs ws2 bs2 vs2 cs2 i (start_of ws i + len_of ws i) }
 {
+    let words = node.words;
+    let at = node.at;
     let span = slots::span_at(words, at);
     let base = slots::start_at(words, at) + slots::len_at(words, at);
     let first = at.0 + 1;
     let below = Part {
-        labels,
+        labels: node.labels,
         words,
         from: Slot(first),
         count: span - 1,
@@ -128,63 +140,54 @@ fn detach_node(labels: &[u8], words: &[u32], at: Slot, labels2: &mut [u8], words
 }
 
 // Carries over what is left of a slot's label behind its first m bytes, as the top of a tree.
-fn top_slot(
-    labels: &[u8],
-    words: &[u32],
-    at: Slot,
-    m: usize,
-    labels2: &mut [u8],
-    words2: &mut [u32],
-)
-    requires { let ws = words.now in
-        let i = at.0 in
-        Within ws labels.now (i + 1) × (m ≤ len_of ws i) × (len_of ws i ≤ 255) × Within words2.old labels2.old 2 }
-    ensures { let ws = words.now in
-        let bs = labels.now in
+fn top_slot(node: &Node<'_>, m: usize, labels2: &mut [u8], words2: &mut [u32])
+    requires { let ws = node.now.words.now in
+        let i = node.now.at.0 in
+        Within ws node.now.labels.now (i + 1) × (m ≤ len_of ws i) × (len_of ws i ≤ 255) × Within words2.old labels2.old 2 }
+    ensures { let ws = node.now.words.now in
+        let bs = node.now.labels.now in
         let ws2 = words2.old in
         let bs2 = labels2.old in
         let vs2 = words2.new in
         let cs2 = labels2.new in
-        SlotPut ws2 bs2 vs2 cs2 1 (topped m (rec_at ws bs at.0)) }
+        SlotPut ws2 bs2 vs2 cs2 1 (topped m (rec_at ws bs node.now.at.0)) }
 {
-    let label = slots::label_at(labels, words, at);
+    let words = node.words;
+    let at = node.at;
+    let label = slots::label_at(node.labels, words, at);
     let rest = &label[m..];
     let head = carried(words, at, 0, rest);
     put_slot(labels2, words2, Slot(1), head, rest);
 }
 
 // Carries the subtree of a slot over, with what is left of its label behind m bytes below an empty root.
-fn detach_label(
-    labels: &[u8],
-    words: &[u32],
-    at: Slot,
-    m: usize,
-    labels2: &mut [u8],
-    words2: &mut [u32],
-)
-    requires { let ws = words.now in
-        let i = at.0 in
-        Detachable ws labels.now i × (m ≤ len_of ws i) × Within words2.old labels2.old (span_of ws i + 1) }
-    ensures { let ws = words.now in
-        let bs = labels.now in
+fn detach_label(node: &Node<'_>, m: usize, labels2: &mut [u8], words2: &mut [u32])
+    requires { let ws = node.now.words.now in
+        let i = node.now.at.0 in
+        Detachable ws node.now.labels.now i × (m ≤ len_of ws i) × Within words2.old labels2.old (span_of ws i + 1) }
+    ensures { let ws = node.now.words.now in
+        let bs = node.now.labels.now in
+        let i = node.now.at.0 in
         let ws2 = words2.old in
         let bs2 = labels2.old in
         let vs2 = words2.new in
         let cs2 = labels2.new in
-        DetachedBelow ws bs ws2 bs2 vs2 cs2 at.0 m (start_of ws at.0 + m) }
+        DetachedBelow ws bs ws2 bs2 vs2 cs2 i m (start_of ws i + m) }
 {
+    let words = node.words;
+    let at = node.at;
     let span = slots::span_at(words, at);
     let base = slots::start_at(words, at) + m;
     let first = at.0 + 1;
     let below = Part {
-        labels,
+        labels: node.labels,
         words,
         from: Slot(first),
         count: span - 1,
         base,
     };
     lift(&below, labels2, words2, Slot(2));
-    top_slot(labels, words, at, m, labels2, words2);
+    top_slot(node, m, labels2, words2);
     put_root(words2, None, span + 1);
 }
 
@@ -219,7 +222,12 @@ fn split_root(
     if slots::nodes_in(words) > room {
         return Err(Refusal::NoRoom);
     }
-    detach_node(labels, words, Slot(0), labels2, words2);
+    let root = Node {
+        labels,
+        words,
+        at: Slot(0),
+    };
+    detach_node(&root, labels2, words2);
     pool::write_empty(words);
     Ok(())
 }
@@ -243,7 +251,8 @@ fn split_node(
     if slots::span_at(words, at) > room {
         return Err(Refusal::NoRoom);
     }
-    detach_node(labels, words, at, labels2, words2);
+    let node = Node { labels, words, at };
+    detach_node(&node, labels2, words2);
     leave(labels, words, at, parent);
     Ok(())
 }
@@ -268,7 +277,8 @@ fn split_label(
     if slots::span_at(words, at) >= room {
         return Err(Refusal::NoRoom);
     }
-    detach_label(labels, words, at, m, labels2, words2);
+    let node = Node { labels, words, at };
+    detach_label(&node, m, labels2, words2);
     leave(labels, words, at, parent);
     Ok(())
 }

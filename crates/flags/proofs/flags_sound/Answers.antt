@@ -30,13 +30,14 @@ returns-then-level-ne0 c =
     all_pass _ (rules_hold _ _ (refusal 7) (allocated (goal.at.returns-then-level-ne0 c).Else-f-eq2-3) (omega (arith, one)))
 
 -- On the root the code asks for a sibling.
-pub returns-then-has_sibling-ne0 : goal.returns-then-has_sibling-ne0
-returns-then-has_sibling-ne0 c =
+pub returns-then-has_sibling : goal.returns-then-has_sibling
+returns-then-has_sibling c =
     let none = below_root c.args.level.0 c.if-level-ne0.false in
-    one_fails _ (λ h. omega (arith, h.1.1.1.1.0, none, c.has_sibling.ensures.0, c.if-has_sibling-ne0.true))
+    let has = rw c.if-has_sibling.true at c.has_sibling.ensures in
+    one_fails _ (λ h. omega (arith, h.1.1.1.1.0, none, has))
 
 pub returns : goal.returns
 returns c =
     let none = below_root c.args.level.0 c.if-level-ne0.false in
-    let has = c.has_sibling.ensures.0 in
-    all_pass _ (rules_hold _ _ (refusal 7) (allocated (goal.at.returns c).Else-f-eq2-3) (omega (arith, none, has, c.if-has_sibling-ne0.false)))
+    let has = rw c.if-has_sibling.false at c.has_sibling.ensures in
+    all_pass _ (rules_hold _ _ (refusal 7) (allocated (goal.at.returns c).Else-f-eq2-3) (omega (arith, none, has)))

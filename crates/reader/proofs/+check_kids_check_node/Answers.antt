@@ -1,5 +1,4 @@
 -- The cycle `reader::check_node`, `reader::check_kids` meets its contracts. Assumes nothing.
-use mathlib.Core.Path.{sym, ◌∙◌}
 use Prim.Native.Nat.{ℕ}
 use native.Mathlib.Omega.{arith}
 use Rattle.std.proofs.lemmas.Result.{err_from_is_err_and}
@@ -13,10 +12,10 @@ check_kids-returns-in_err-next t c =
     let p = err_from_is_err_and c.from_residual.result c.from_residual.ensures.1 in
     rw (p.1, p.2) (c.loop-next.invariant.whole _ (stop-broken _ _ _ _ _ _ c.in_err-next.ensures))
 
-pub check_kids-returns-then-has_sibling-eq0 : goal.check_kids-returns-then-has_sibling-eq0
-check_kids-returns-then-has_sibling-eq0 t c =
+pub check_kids-returns-then-not-has_sibling : goal.check_kids-returns-then-not-has_sibling
+check_kids-returns-then-not-has_sibling t c =
     c.loop-next.invariant.whole _
-    (stop-last _ _ _ _ _ _ c.in_ok-next.ensures (sym c.has_sibling.ensures.0 ∙ c.if-has_sibling-eq0.true))
+    (stop-last _ _ _ _ _ _ c.in_ok-next.ensures (rw c.if-not-has_sibling.true at c.has_sibling.ensures))
 
 pub check_kids-bounds-tree-at-in-loop-next : goal.check_kids-bounds-tree-at-in-loop-next
 check_kids-bounds-tree-at-in-loop-next t c =
@@ -33,7 +32,7 @@ check_kids-loop-next-preserved t c =
       few = omega arith;
       whole = λ x h.
           c.loop-next.invariant.whole x
-          (go_on _ _ _ _ _ _ x p (λ e. c.if-has_sibling-eq0.false (c.has_sibling.ensures.0 ∙ e)) (rw c.from-least.ensures at h));
+          (go_on _ _ _ _ _ _ x p (λ e. let one = rw c.if-not-has_sibling.false at c.has_sibling.ensures in omega (arith, e, one)) (rw c.from-least.ensures at h));
     }
 
 -- a record that passed its tests
@@ -57,10 +56,10 @@ check_node-overflow_sub-past t c = let o = passed t (goal.at.check_node-overflow
 pub check_node-bounds-tree-at-3 : goal.check_node-bounds-tree-at-3
 check_node-bounds-tree-at-3 t c = let o = passed t (goal.at.check_node-bounds-tree-at-3 t c).In_ok-test_record in omega arith
 
-pub check_node-returns-then-has_child-eq0 : goal.check_node-returns-then-has_child-eq0
-check_node-returns-then-has_child-eq0 t c =
+pub check_node-returns-then-not-has_child : goal.check_node-returns-then-not-has_child
+check_node-returns-then-not-has_child t c =
     rw (c.from-len.ensures, c.has_number.ensures.0)
-    (node-leaf _ _ _ _ _ c.in_ok-test_record.ensures (sym c.has_child.ensures.0 ∙ c.if-has_child-eq0.true) (omega arith))
+    (node-leaf _ _ _ _ _ c.in_ok-test_record.ensures (rw c.if-not-has_child.true at c.has_child.ensures) (omega arith))
 
 pub check_node-check_kids-requires : goal.check_node-check_kids-requires
 check_node-check_kids-requires t c = let o = passed t (goal.at.check_node-check_kids-requires t c).In_ok-test_record in omega arith
@@ -68,4 +67,4 @@ check_node-check_kids-requires t c = let o = passed t (goal.at.check_node-check_
 pub check_node-returns : goal.check_node-returns
 check_node-returns t c =
     let q = rw (c.from-len.ensures, c.has_number.ensures.0) at c.check_kids.ensures in
-    node-deep _ _ _ _ _ _ c.in_ok-test_record.ensures (λ z. c.if-has_child-eq0.false (c.has_child.ensures.0 ∙ z)) q
+    node-deep _ _ _ _ _ _ c.in_ok-test_record.ensures (λ z. let one = rw c.if-not-has_child.false at c.has_child.ensures in omega (arith, z, one)) q

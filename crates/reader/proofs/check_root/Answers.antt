@@ -1,5 +1,5 @@
 -- `reader::check_root` meets its contract: the root's record, and behind it its children, where it has any. Assumes nothing.
-use mathlib.Core.Path.{◌≡◌, refl, sym, ◌∙◌}
+use mathlib.Core.Path.{◌≡◌, refl}
 use native.Mathlib.Omega.{arith}
 use lib.ListN.{get_or}
 use Rattle.std.proofs.lemmas.Result.{err_from_is_err_and}
@@ -33,11 +33,11 @@ overflow_sub-past c = let o = passed (goal.at.overflow_sub-past c).In_ok-test_ro
 pub bounds-tree-0-2 : goal.bounds-tree-0-2
 bounds-tree-0-2 c = let o = passed (goal.at.bounds-tree-0-2 c).In_ok-test_root in omega arith
 
-pub returns-then-has_child-eq0 : goal.returns-then-has_child-eq0
-returns-then-has_child-eq0 c =
+pub returns-then-not-has_child : goal.returns-then-not-has_child
+returns-then-not-has_child c =
     let e = c.in_ok-test_root.ensures in
-    let z = bare (goal.at.returns-then-has_child-eq0 c).In_ok-test_root in
-    let leaf = node-leaf c.args.tree.now 0 0 0 (start c.args.numbers) e (sym c.has_child.ensures.0 ∙ c.if-has_child-eq0.true) (omega arith) in
+    let z = bare (goal.at.returns-then-not-has_child c).In_ok-test_root in
+    let leaf = node-leaf c.args.tree.now 0 0 0 (start c.args.numbers) e (rw c.if-not-has_child.true at c.has_child.ensures) (omega arith) in
     rw (c.has_number.ensures.0) (rw z at leaf)
 
 pub check_kids-requires : goal.check_kids-requires
@@ -48,4 +48,4 @@ returns c =
     let e = c.in_ok-test_root.ensures in
     let z = bare (goal.at.returns c).In_ok-test_root in
     let q = rw c.has_number.ensures.0 at c.check_kids.ensures in
-    node-deep c.args.tree.now 0 0 0 (start c.args.numbers) _ e (λ h. c.if-has_child-eq0.false (c.has_child.ensures.0 ∙ h)) (rw z q)
+    node-deep c.args.tree.now 0 0 0 (start c.args.numbers) _ e (λ h. let one = rw c.if-not-has_child.false at c.has_child.ensures in omega (arith, h, one)) (rw z q)
