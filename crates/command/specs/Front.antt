@@ -1,5 +1,5 @@
 -- The names of the commands and of the pools, as bytes, and the front of a command. Assumes nothing.
-use Rattle.std.specs.Prelude.{◌≡◌, List, ◌⊎◌, ℕ, ◌+◌, ◌≤◌, ◌<◌, Bool, eqb, length, take, drop, get_or, codes, Option, Some, None, Result, Ok, Err}
+use Rattle.std.specs.Prelude.{◌≡◌, List, ◌⊎◌, ℕ, ◌+◌, ◌≤◌, ◌<◌, Bool, eqb, length, take, drop, get_or, codes, Option, Some, None, IfSome, Result, Ok, Err}
 use Rattle.line.specs.Spelling.{index_of}
 use Rattle.command.specs.declared.Verb.{Verb}
 use Rattle.command.specs.declared.Named.{Named}
@@ -63,10 +63,30 @@ CommandOf None s = index_of 32 s < length s → VerbOf None (first_word s) ⊎ N
 abbrev pub CommentOf : Bool → List ℕ → Type 0
 CommentOf b s = b ≡ eqb (get_or s 0 0) 35
 
+-- The verb that an order carries out
+abbrev pub verb_of : Order → Verb
+verb_of Order.Make = Verb.Make
+verb_of Order.Clear = Verb.Clear
+verb_of Order.Counts = Verb.Counts
+verb_of Order.Write = Verb.Write
+verb_of (Order.Get n) = Verb.Get
+verb_of (Order.Remove n) = Verb.Remove
+verb_of (Order.Longest n) = Verb.Longest
+verb_of (Order.Shared n) = Verb.Shared
+verb_of (Order.Walk n) = Verb.Walk
+verb_of (Order.Insert n r) = Verb.Insert
+verb_of (Order.Split n) = Verb.Split
+verb_of (Order.Read n k) = Verb.Read
+verb_of (Order.Step h) = Verb.Step
+
+-- An order, where there is one, is of this verb.
+abbrev pub OrderOf : Verb → Option Order → Type 0
+OrderOf v r = IfSome r (λ w. verb_of w ≡ v)
+
 -- What a line of n bytes, of which s holds as many as fit, asks for: what its front names, if it fits and its words are good for
--- that.
+-- that. The order is of the verb that the line names.
 abbrev pub AskedOf : Result (Command × Order) NotCommand → List ℕ → ℕ → Type 0
-AskedOf (Ok (c, w)) s n = (n ≤ length s) × CommandOf (Some c) (take n s)
+AskedOf (Ok (c, w)) s n = (n ≤ length s) × CommandOf (Some c) (take n s) × (verb_of w ≡ c.verb)
 AskedOf (Err NotCommand.TooLong) s n = length s < n
 AskedOf (Err NotCommand.Front) s n = (n ≤ length s) × CommandOf None (take n s)
 AskedOf (Err NotCommand.Words) s n = (n ≤ length s) × ((c : Command) × CommandOf (Some c) (take n s))

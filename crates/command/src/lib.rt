@@ -2,7 +2,7 @@
 #![tactic(auto)]
 
 ghost use Rattle.std.specs.Prelude.{◌≡◌, take, drop};
-ghost use Rattle.command.specs.Front.{VerbOf, NamedOf, CommandOf, CommentOf, AskedOf, HeardOf};
+ghost use Rattle.command.specs.Front.{VerbOf, NamedOf, CommandOf, CommentOf, OrderOf, AskedOf, HeardOf};
 
 use tree::{KEY_MAX, RuleNo};
 
@@ -142,7 +142,9 @@ pub fn behind<T>(run: &[T], n: usize) -> &[T]
 }
 
 // No word at all.
-fn no_words(verb: Verb) -> Option<Order> {
+fn no_words(verb: Verb) -> Option<Order>
+    ensures { OrderOf verb result }
+{
     match verb {
         Verb::Make => Some(Order::Make),
         Verb::Clear => Some(Order::Clear),
@@ -153,7 +155,9 @@ fn no_words(verb: Verb) -> Option<Order> {
 }
 
 // One word, which was read as a key.
-fn one_word(verb: Verb, key: usize) -> Option<Order> {
+fn one_word(verb: Verb, key: usize) -> Option<Order>
+    ensures { OrderOf verb result }
+{
     match verb {
         Verb::Get => Some(Order::Get(key)),
         Verb::Remove => Some(Order::Remove(key)),
@@ -165,7 +169,9 @@ fn one_word(verb: Verb, key: usize) -> Option<Order> {
 }
 
 // A split names the other pool.
-fn with_pool(pool: Named, key: usize, word: &[u8]) -> Option<Order> {
+fn with_pool(pool: Named, key: usize, word: &[u8]) -> Option<Order>
+    ensures { OrderOf Verb.Split result }
+{
     if pool_named(word)? == pool {
         return None;
     }
@@ -173,7 +179,9 @@ fn with_pool(pool: Named, key: usize, word: &[u8]) -> Option<Order> {
 }
 
 // The last key of a walk, spelt by a word, `.` if none was given; and the output's length, at most 4,096.
-fn with_step(prefix: usize, rest: &[u8], room: &mut [u8]) -> Option<Order> {
+fn with_step(prefix: usize, rest: &[u8], room: &mut [u8]) -> Option<Order>
+    ensures { OrderOf Verb.Step result }
+{
     let n = line::word_end(rest);
     if n == rest.len() {
         return None;
@@ -196,7 +204,9 @@ fn more_words(
     rest: &[u8],
     room: &mut [u8],
     numbers: &mut [u64],
-) -> Option<Order> {
+) -> Option<Order>
+    ensures { OrderOf command.verb result }
+{
     match command.verb {
         Verb::Insert => Some(Order::Insert(key, RuleNo(line::number(rest)?))),
         Verb::Read => Some(Order::Read(key, line::numbers(rest, numbers)?)),
@@ -207,7 +217,9 @@ fn more_words(
 }
 
 // The order that a command's words make. The first word behind the pool's name, if there is one, is hex.
-fn order_of(command: Command, line: &[u8], bytes: &mut [u8], numbers: &mut [u64]) -> Option<Order> {
+fn order_of(command: Command, line: &[u8], bytes: &mut [u8], numbers: &mut [u64]) -> Option<Order>
+    ensures { OrderOf command.verb result }
+{
     let verb = command.verb;
     let end = command.end;
     if end >= line.len() {
