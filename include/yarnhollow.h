@@ -96,7 +96,7 @@
  * the image and not by the size of the pool, which counts last: a read that was refused for a pool of one slot had taken as
  * much. Call read with 1 MiB of stack left; the usual 8 MiB of a thread are enough. A thread with less must not read an image
  * from outside: no call tests the stack. `yarnhollow_next` took 20,900 bytes, write 8,500, insert of a key of 4,096 bytes
- * 2,300, every other call at most 700. What the loader may take at the first call of memcpy and memset is not counted.
+ * 2,300, every other call at most 600. What the loader may take at the first call of memcpy and memset is not counted.
  */
 #ifndef YARNHOLLOW_H
 #define YARNHOLLOW_H

@@ -3,6 +3,7 @@ use Rattle.std.specs.Prelude.{◌≡◌, List, ◌⊎◌, ℕ, ◌+◌, ◌≤�
 use Rattle.line.specs.Spelling.{index_of}
 use Rattle.command.specs.declared.Verb.{Verb}
 use Rattle.command.specs.declared.Named.{Named}
+use Rattle.command.specs.declared.Front.{Front}
 use Rattle.command.specs.declared.Command.{Command}
 use Rattle.command.specs.declared.Order.{Order}
 use Rattle.command.specs.declared.NotCommand.{NotCommand}
@@ -46,7 +47,25 @@ first_word s = take (index_of 32 s) s
 abbrev pub behind_word : List ℕ → List ℕ
 behind_word s = drop (index_of 32 s + 1) s
 
--- The front of a line of two words or more: a verb, a pool, and where the pool's name ends
+-- The front of a line of two words or more: what each of the first two names, and where the second ends
+pub record FrontIn (s : List ℕ) (r : Front) : Type 0 where
+  pub verb : VerbOf r.verb (first_word s)
+  pub pool : NamedOf r.pool (first_word (behind_word s))
+  pub end : r.end ≡ index_of 32 s + 1 + index_of 32 (behind_word s)
+  pub more : index_of 32 s < length s
+  pub within : r.end ≤ length s
+
+-- A line of one word has no front.
+abbrev pub FrontOf : Option Front → List ℕ → Type 0
+FrontOf (Some r) s = FrontIn s r
+FrontOf None s = length s ≤ index_of 32 s
+
+-- A front that names both is that of a command.
+abbrev pub Commands : Front → Option Command → Type 0
+Commands r (Some c) = (r.verb ≡ Some c.verb) × (r.pool ≡ Some c.pool) × (c.end ≡ r.end)
+Commands r None = (r.verb ≡ None) ⊎ (r.pool ≡ None)
+
+-- The front of a command: a verb, a pool, and where the pool's name ends
 pub record Fronted (s : List ℕ) (r : Command) : Type 0 where
   pub verb : VerbOf (Some r.verb) (first_word s)
   pub pool : NamedOf (Some r.pool) (first_word (behind_word s))
@@ -84,12 +103,14 @@ abbrev pub OrderOf : Verb → Option Order → Type 0
 OrderOf v r = IfSome r (λ w. verb_of w ≡ v)
 
 -- What a line of n bytes, of which s holds as many as fit, asks for: what its front names, if it fits and its words are good for
--- that. The order is of the verb that the line names.
+-- that. The order is of the verb that the line names. Of a line that is no command, but fits and has two words, it is told what
+-- its front names.
 abbrev pub AskedOf : Result (Command × Order) NotCommand → List ℕ → ℕ → Type 0
 AskedOf (Ok (c, w)) s n = (n ≤ length s) × CommandOf (Some c) (take n s) × (verb_of w ≡ c.verb)
 AskedOf (Err NotCommand.TooLong) s n = length s < n
-AskedOf (Err NotCommand.Front) s n = (n ≤ length s) × CommandOf None (take n s)
-AskedOf (Err NotCommand.Words) s n = (n ≤ length s) × ((c : Command) × CommandOf (Some c) (take n s))
+AskedOf (Err NotCommand.Alone) s n = (n ≤ length s) × FrontOf None (take n s)
+AskedOf (Err (NotCommand.Front r)) s n = (n ≤ length s) × FrontOf (Some r) (take n s) × CommandOf None (take n s)
+AskedOf (Err (NotCommand.Words c)) s n = (n ≤ length s) × CommandOf (Some c) (take n s)
 
 -- An empty line and a comment ask for nothing.
 abbrev pub HeardOf : Option (Result (Command × Order) NotCommand) → List ℕ → ℕ → Type 0

@@ -2,7 +2,7 @@
 #![tactic(auto)]
 
 ghost use Rattle.std.specs.Prelude.{◌≡◌, take, drop};
-ghost use Rattle.command.specs.Front.{VerbOf, NamedOf, CommandOf, CommentOf, OrderOf, AskedOf, HeardOf};
+ghost use Rattle.command.specs.Front.{VerbOf, NamedOf, FrontOf, Commands, CommentOf, OrderOf, AskedOf, HeardOf};
 
 use tree::{KEY_MAX, RuleNo};
 
@@ -29,6 +29,14 @@ pub enum Verb {
 pub enum Named {
     First,
     Second,
+}
+
+// The front of a line: what its first two words name, each by itself, and where the second one ends.
+#[derive(Clone, Copy)]
+pub struct Front {
+    pub verb: Option<Verb>,
+    pub pool: Option<Named>,
+    pub end: usize,
 }
 
 // The front of a command: its verb, the pool that it names, and where that name ends; behind a space there its further words
@@ -68,13 +76,14 @@ pub enum Order {
     Step(Handed),
 }
 
-// Why a line is no command: it is longer than its room, its front names no verb or no pool, or its words are none that its verb
-// takes.
+// Why a line is no command: it is longer than its room, it is one word alone, its front names no verb or no pool, or its words are
+// none that its verb takes. What its front names is told all the same.
 #[derive(Clone, Copy)]
 pub enum NotCommand {
     TooLong,
-    Front,
-    Words,
+    Alone,
+    Front(Front),
+    Words(Command),
 }
 
 // A name for each verb.
@@ -110,9 +119,9 @@ fn pool_named(s: &[u8]) -> Option<Named>
     }
 }
 
-// The front of a line. A line of one word is no command.
-fn command_in(s: &[u8]) -> Option<Command>
-    ensures { CommandOf result s.now }
+// The front of a line; one of one word has none.
+fn front_in(s: &[u8]) -> Option<Front>
+    ensures { FrontOf result s.now }
 {
     let n = line::word_end(s);
     if n == s.len() {
@@ -120,10 +129,21 @@ fn command_in(s: &[u8]) -> Option<Command>
     }
     let rest = &s[n + 1..];
     let m = line::word_end(rest);
-    Some(Command {
-        verb: verb_named(&s[..n])?,
-        pool: pool_named(&rest[..m])?,
+    Some(Front {
+        verb: verb_named(&s[..n]),
+        pool: pool_named(&rest[..m]),
         end: n + 1 + m,
+    })
+}
+
+// A front that names a verb and a pool is a command's.
+fn command_of(front: Front) -> Option<Command>
+    ensures { Commands front result }
+{
+    Some(Command {
+        verb: front.verb?,
+        pool: front.pool?,
+        end: front.end,
     })
 }
 
@@ -257,8 +277,9 @@ fn asked(
         return Err(NotCommand::TooLong);
     }
     let whole = &line[..n];
-    let command = command_in(whole).ok_or(NotCommand::Front)?;
-    let order = order_of(command, whole, bytes, numbers).ok_or(NotCommand::Words)?;
+    let front = front_in(whole).ok_or(NotCommand::Alone)?;
+    let command = command_of(front).ok_or(NotCommand::Front(front))?;
+    let order = order_of(command, whole, bytes, numbers).ok_or(NotCommand::Words(command))?;
     Ok((command, order))
 }
 

@@ -68,31 +68,32 @@ fn new_nodes(stop: Stop, above: usize, len: usize) -> usize
 }
 
 // Fills the slots from `at` on with a new leaf: a label over 255 bytes becomes 255 bytes without a number, over the rest
-// treated again in that way. Counterpart: `new`.
-fn chain(labels: &mut [u8], words: &mut [u32], at: Slot, leaf: &Leaf<'_>)
-    requires { let l = leaf.now.rest.now in
-        Within words.old labels.old (at.0 + leaf_nodes (length l)) × (1 ≤ length l) × (leaf.now.start + length l ≤ 4096) }
+// treated again in that way. It takes the leaf by its parts: with a `Leaf` of its own lent to the next call, each 255 bytes of the
+// key cost a frame, and by parts the compiler makes a loop of it. Counterpart: `new`.
+fn chain(labels: &mut [u8], words: &mut [u32], at: Slot, start: usize, rest: &[u8], number: RuleNo)
+    requires { let l = rest.now in
+        Within words.old labels.old (at.0 + leaf_nodes (length l)) × (1 ≤ length l) × (start + length l ≤ 4096) }
     ensures { let ws = words.old in
         let bs = labels.old in
         let vs = words.new in
         let cs = labels.new in
-        Built ws bs vs cs at.0 (leaf_bares leaf.now.start leaf.now.rest.now leaf.now.number.0) }
+        Built ws bs vs cs at.0 (leaf_bares start rest.now number.0) }
 {
-    let start = leaf.start;
-    let rest = leaf.rest;
     if rest.len() <= LABEL_MAX {
-        put_linked(labels, words, at, start, rest, Some(leaf.number), 1);
+        put_linked(labels, words, at, start, rest, Some(number), 1);
         return;
     }
     let span = chain_nodes(rest.len());
     put_linked(labels, words, at, start, &rest[0..LABEL_MAX], None, span);
     let next = at.0 + 1;
-    let below = Leaf {
-        start: start + LABEL_MAX,
-        rest: &rest[LABEL_MAX..],
-        number: leaf.number,
-    };
-    chain(labels, words, Slot(next), &below);
+    chain(
+        labels,
+        words,
+        Slot(next),
+        start + LABEL_MAX,
+        &rest[LABEL_MAX..],
+        number,
+    );
 }
 
 // Cuts the label of the slot behind m bytes, with a new leaf before the lower part. Of the n slots in use those behind move
@@ -109,16 +110,12 @@ fn fork_before(labels: &mut [u8], words: &mut [u32], fork: &Fork<'_>)
     let at = fork.at;
     let m = fork.m;
     let k = fork.k;
-    let leaf = Leaf {
-        start: slots::start_at(words, at) + m,
-        rest: fork.rest,
-        number: fork.number,
-    };
+    let start = slots::start_at(words, at) + m;
     let next = at.0 + 1;
     let lower = at.0 + k;
     splice::move_slots(labels, words, at, Slot(fork.n), k);
     keep_front(words, at, m, None);
-    chain(labels, words, Slot(next), &leaf);
+    chain(labels, words, Slot(next), start, fork.rest, fork.number);
     keep_back(labels, words, Slot(lower), m);
 }
 
@@ -134,18 +131,14 @@ fn fork_behind(labels: &mut [u8], words: &mut [u32], fork: &Fork<'_>)
 {
     let at = fork.at;
     let m = fork.m;
-    let leaf = Leaf {
-        start: slots::start_at(words, at) + m,
-        rest: fork.rest,
-        number: fork.number,
-    };
+    let start = slots::start_at(words, at) + m;
     let lower = at.0 + 1;
     let end = at.0 + slots::span_at(words, at);
     splice::move_slots(labels, words, Slot(end), Slot(fork.n), fork.k);
     splice::move_slots(labels, words, at, Slot(end), 1);
     keep_front(words, at, m, None);
     keep_back(labels, words, Slot(lower), m);
-    chain(labels, words, Slot(end + 1), &leaf);
+    chain(labels, words, Slot(end + 1), start, fork.rest, fork.number);
 }
 
 // Whether the first byte of `rest` is below the byte of the slot's label behind its first m.
@@ -208,7 +201,7 @@ fn add_leaf(labels: &mut [u8], words: &mut [u32], at: Slot, n: usize, k: usize, 
         Placed was.words was.labels is.words is.labels at.0 0 new }
 {
     splice::move_slots(labels, words, at, Slot(n), k);
-    chain(labels, words, at, leaf);
+    chain(labels, words, at, leaf.start, leaf.rest, leaf.number);
     splice::settle_at(words, n + k, at, k);
 }
 

@@ -1,4 +1,4 @@
-// Runs of bytes: what two of them share.
+// Runs of bytes: what two of them share, and a copy.
 #![tactic(auto)]
 
 ghost use Rattle.std.specs.Prelude.{◌≡◌, leb, length, drop};
@@ -73,7 +73,8 @@ fn four_same(k: &[u8], l: &[u8], i: usize) -> bool
     four(k, i) == four(l, i)
 }
 
-// The eight bytes at i as one number, the first the lowest: one load. Each width has its own, as no trait has `from_le_bytes`.
+// The eight bytes at i as one number, the first the lowest: one load. Each width has its own, as no trait of the standard library
+// has `from_le_bytes`.
 fn eight(b: &[u8], i: usize) -> u64
     requires { i + 8 ≤ length b.now }
     ensures { result ≡ eight_at b.now i }
@@ -96,4 +97,15 @@ fn four(b: &[u8], i: usize) -> u32
     ensures { result ≡ four_at b.now i }
 {
     u32::from_le_bytes([b[i], b[i + 1], b[i + 2], b[i + 3]])
+}
+
+// Fills one run from another of the same length, byte by byte. The library's `copy_from_slice` is a call of `memmove`: a label of
+// few bytes costs more by it, and the archive for C would need that name from outside.
+pub fn copy(to: &mut [u8], from: &[u8])
+    requires { length to.old ≡ length from.now }
+    ensures { to.new ≡ from.now }
+{
+    for i in 0..to.len() {
+        to[i] = from[i];
+    }
 }

@@ -38,7 +38,10 @@ fn remove_in(labels: &mut [u8], words: &mut [u32], d: Descent, key: &[u8]) -> An
     let looked = d.looked;
     match d.stop {
         Stop::Root | Stop::Same => take_number(labels, words, at, looked),
-        Stop::Gap | Stop::Inside(_) | Stop::Fork(_) => Err(Refusal::NotFound(looked)),
+        // The key ends inside a label.
+        Stop::Inside(_) => Err(Refusal::NotFound(looked)),
+        // No label goes on as it does.
+        Stop::Gap | Stop::Fork(_) => Err(Refusal::NotFound(looked)),
     }
 }
 

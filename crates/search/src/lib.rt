@@ -193,7 +193,10 @@ pub fn get_in(pool: &Pool<'_>, key: &Key<'_>) -> Answer<Got>
     let looked = d.looked;
     match d.stop {
         Stop::Root | Stop::Same => number_in(pool.words, at, looked),
-        Stop::Gap | Stop::Inside(_) | Stop::Fork(_) => Err(Refusal::NotFound(looked)),
+        // No label begins with the key's next byte.
+        Stop::Gap => Err(Refusal::NotFound(looked)),
+        // The key ends inside a label, or parts from it there.
+        Stop::Inside(_) | Stop::Fork(_) => Err(Refusal::NotFound(looked)),
     }
 }
 

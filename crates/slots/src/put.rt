@@ -55,7 +55,7 @@ pub fn put_label(labels: &mut [u8], at: Slot, label: &[u8])
 {
     let from = LABEL_ROOM * at.0;
     let to = from + label.len();
-    labels[from..to].copy_from_slice(label);
+    label::copy(&mut labels[from..to], label);
 }
 
 // Writes one slot whole.

@@ -308,6 +308,8 @@ pub fn split(
         Stop::Root => split_root(labels, words, labels2, words2, room),
         Stop::Same => split_node(labels, words, cut, labels2, words2),
         Stop::Inside(m) => split_label(labels, words, cut, m, labels2, words2),
-        Stop::Gap | Stop::Fork(_) => Err(Refusal::NoKey),
+        // No label begins with the prefix's next byte, or the prefix parts from one.
+        Stop::Gap => Err(Refusal::NoKey),
+        Stop::Fork(_) => Err(Refusal::NoKey),
     }
 }

@@ -5,15 +5,15 @@ use mathlib.Core.Option.{Option, none, some}
 use mathlib.Core.Bool.{Bool, true, false}
 use Prim.Native.Nat.{ℕ}
 use lib.ListN.{length, drop}
-use Rattle.std.specs.Prelude.{Some, nat_eq}
+use Rattle.std.specs.Prelude.{nat_eq}
 use Rattle.std.specs.List.{starts_with}
 use Rattle.std.specs.Cmp.{nat_cmp_is}
-use Rattle.std.specs.Cmp.Lexicographic.{slice_partial_cmp}
-use Rattle.std.specs.Ordering.{nat_cmp, is_lt, is_some_and, MatchOrdering}
+use Rattle.std.specs.Cmp.Lexicographic.{slice_cmp}
+use Rattle.std.specs.Ordering.{nat_cmp, is_lt, MatchOrdering}
 use Rattle.std.specs.declared.cmp.Ordering.{Ordering}
 use Rattle.std.specs.declared.cmp.Ordering.TheVariants.{Less, Equal, Greater}
 use Rattle.std.proofs.lemmas.Bool.Decides.{Decides-eqb}
-use Rattle.std.proofs.lemmas.Cmp.{same_from_slice_cmp_tested}
+use Rattle.std.proofs.lemmas.Cmp.{same_from_slice_cmp}
 use Rattle.std.proofs.lemmas.Slice.Eq.{starts_is}
 use Rattle.tree.specs.Key.{Key, order, strip}
 use Rattle.tree.specs.Map.{past}
@@ -34,9 +34,9 @@ past_more x y l k o e =
     ]
 
 -- A key comes after the last one if that is less as a slice.
-pub past_lt : (l k : Key) (r : Bool) → r ≡ is_some_and is_lt (slice_partial_cmp (λ x y. Some (nat_cmp x y)) l k) → r ≡ past (some l) k
+pub past_cmp : (l k : Key) (r : Ordering) → r ≡ slice_cmp nat_cmp l k → is_lt r ≡ past (some l) k
 unfolding past order
-past_lt = same_from_slice_cmp_tested nat_cmp is_lt (λ l k. past (some l) k) refl (λ y k. refl) (λ x l. refl) past_more
+past_cmp = same_from_slice_cmp nat_cmp is_lt (λ l k. past (some l) k) refl (λ y k. refl) (λ x l. refl) past_more
 
 module _ (p : Key) (l : Option Key) (k : Key) where
   pub due-none : strip p k ≡ none → due p l k ≡ false

@@ -44,7 +44,7 @@ fn is_due(key: &[u8], prefix: &[u8], last: Option<&[u8]>) -> bool
         return false;
     }
     match last {
-        Some(last) => last < key,
+        Some(last) => last.cmp(&key).is_lt(),
         None => true,
     }
 }
@@ -58,7 +58,7 @@ fn lay(labels: &[u8], words: &[u32], at: Slot, path: &mut [u8]) -> usize
 {
     let from = slots::start_at(words, at);
     let to = from + slots::len_at(words, at);
-    path[from..to].copy_from_slice(slots::label_at(labels, words, at));
+    label::copy(&mut path[from..to], slots::label_at(labels, words, at));
     to
 }
 
@@ -100,7 +100,7 @@ impl Key {
         let len = bytes.len();
         let mut room = [0u8; 4096];
         if len <= KEY_MAX {
-            room[..len].copy_from_slice(bytes);
+            label::copy(&mut room[..len], bytes);
         }
         Key { bytes: room, len }
     }
@@ -162,7 +162,7 @@ impl Walk {
         if out.len() < n {
             return Err(Refusal::KeyShort(n));
         }
-        out[..n].copy_from_slice(&path[..n]);
+        label::copy(&mut out[..n], &path[..n]);
         Ok(found)
     }
 

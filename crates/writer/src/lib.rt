@@ -51,7 +51,7 @@ fn write_record(
     let to = at + 4;
     let next = to + n;
     let label = slots::label_at(labels, words, slot);
-    out[to..next].copy_from_slice(label);
+    label::copy(&mut out[to..next], label);
     next
 }
 

@@ -12,5 +12,5 @@ pub returns : goal.returns
 returns t c =
     let a = c.args in
     let put = c.put_linked-2.ensures in
-    built_chain _ _ _ _ _ _ _ a.leaf.now.start a.leaf.now.rest.now a.leaf.now.number.0 c.requires.0 c.if-rest-le-LABEL_MAX.false put.0
+    built_chain _ _ _ _ _ _ _ a.start a.rest.now a.number.0 c.requires.0 c.if-rest-le-LABEL_MAX.false put.0
     (put.1 ∙ c.chain_nodes-span.ensures) c.chain.ensures

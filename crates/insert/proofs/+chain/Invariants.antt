@@ -3,4 +3,4 @@ use Rattle.std.proofs.Common.{length}
 use Rattle.insert.proofs.+chain.Given as goal
 
 abbrev pub decreases-chain : goal.decreases-chain
-decreases-chain l = length l.leaf.now.rest.now
+decreases-chain l = length l.rest.now

@@ -1,5 +1,6 @@
 -- `search::get_in` meets its contract, by where the descent has come to. Assumes nothing.
 use mathlib.Core.Path.{ap}
+use mathlib.Core.Logic.{inl, inr}
 use Rattle.pool.specs.Lent.{Lent}
 use Rattle.search.proofs.Answers.{Known, knows, arrived_slot, arrived_got, missed_got}
 use Rattle.search.proofs.get_in.Goals as goal
@@ -20,4 +21,7 @@ returns-in-Root c =
     arrived_got (known (goal.at.returns-in-Root c).After-descend-d) c.in-Root.is _ (rw words at c.number_in.ensures)
 
 pub returns-in-Gap : goal.returns-in-Gap
-returns-in-Gap c = missed_got (known (goal.at.returns-in-Gap c).After-descend-d) c.in-Gap.is
+returns-in-Gap c = missed_got (known (goal.at.returns-in-Gap c).After-descend-d) (inl c.in-Gap.is)
+
+pub returns-in-Inside : goal.returns-in-Inside
+returns-in-Inside c = missed_got (known (goal.at.returns-in-Inside c).After-descend-d) (inr c.in-Inside.is)

@@ -1,5 +1,6 @@
 -- `split::split` meets its contract, by where the search has ended. Assumes nothing.
 use mathlib.Core.Path.{sym}
+use mathlib.Core.Logic.{inl, inr}
 use Rattle.std.proofs.lemmas.Result.{err_from_is_err_and}
 use Rattle.tree.proofs.Exits.{was-some, was-none}
 use Rattle.pool.specs.Rule.{Lengths}
@@ -70,4 +71,9 @@ returns-in-Inside c =
 pub returns-in-Gap : goal.returns-in-Gap
 returns-in-Gap c =
     let d = (goal.at.returns-in-Gap c).After-descend-d in
-    absent_told (known d) (sized d) c.in-Gap.is
+    absent_told (known d) (sized d) (inl c.in-Gap.is)
+
+pub returns-in-Fork : goal.returns-in-Fork
+returns-in-Fork c =
+    let d = (goal.at.returns-in-Fork c).After-descend-d in
+    absent_told (known d) (sized d) (inr (_, c.in-Fork.is))

@@ -3,4 +3,4 @@ use Rattle.slots.proofs.Puts.{label-put}
 use Rattle.slots.proofs.put.put_label.Goals as goal
 
 pub returns : goal.returns
-returns c = label-put _ _ _ _ c.requires.0 c.requires.1 c.copy_from_slice.ensures.after
+returns c = label-put _ _ _ _ c.requires.0 c.requires.1 c.copy.ensures

@@ -53,4 +53,4 @@ pub returns : goal.returns
 returns c =
     let at = goal.at.returns c in
     let w = was-some c.seek.result _ c.in_ok-found.ensures.value in
-    step_given (asked at.In_ok-last) _ (sought at.After-seek) w c.if-out-n.false c.copy_from_slice.ensures.after
+    step_given (asked at.In_ok-last) _ (sought at.After-seek) w c.if-out-n.false c.copy.ensures
